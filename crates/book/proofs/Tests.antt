@@ -1,0 +1,85 @@
+-- Tests that go along a list, one element a turn.
+use mathlib.Core.Path.{_≡_, refl, sym, ap, _∙_}
+use mathlib.Core.List.{List, [], _∷_}
+use mathlib.Core.Bool.{Bool, true, false, cond, _&&_}
+use Prim.Native.Nat.{ℕ, zero, suc, _+_, _≤_, _<_}
+use native.Mathlib.Omega.{arith}
+use lib.Dec.{eqb}
+use lib.ListN.{length, getD, drop}
+use Rattle.std.proofs.shelf.Lists.{at-drop-more, at-drop-all}
+use borrow.Author.Needs.{needs}
+use Rattle.std.specs.Orderings.{Decides}
+use Rattle.std.proofs.shelf.Equals.{compares-decides}
+use Rattle.std.proofs.shelf.Tests.{eq-eqb, ne-eqb}
+use Rattle.std.proofs.shelf.Ways.{tells}
+use Rattle.book.specs.Rules.{depth-of, is-empty, scope-ok, same-scope, is-class, heads-ok}
+use Rattle.book.specs.Limits.{most-nodes}
+use Rattle.book.specs.declared.parts.Class.{Class}
+use Rattle.book.specs.declared.parts.Node.{Node}
+
+-- F holds of a list where p holds of each element: what is left from i on tells the whole
+module _ {X : Type 0} (p : X → Bool) (F : List X → Bool) (none : F [] ≡ true) (some : (x : X) (xs : List X) → F (x ∷ xs) ≡ (p x && F xs)) (d : X) (xs : List X) (i : ℕ) (at : F xs ≡ F (drop i xs)) where
+  pub all-end : length xs ≤ i → F xs ≡ true
+  all-end l = at ∙ at-drop-all F xs i l ∙ none
+
+  next : i < length xs → F xs ≡ (p (getD xs i d) && F (drop (i + 1) xs))
+  next l = at ∙ at-drop-more F xs i d l ∙ some (getD xs i d) (drop (i + 1) xs)
+
+  pub all-more : i < length xs → p (getD xs i d) ≡ true → F xs ≡ F (drop (i + 1) xs)
+  all-more l h = next l ∙ ap (λ b. b && F (drop (i + 1) xs)) h
+
+  pub all-fails : i < length xs → p (getD xs i d) ≡ false → F xs ≡ false
+  all-fails l h = next l ∙ ap (λ b. b && F (drop (i + 1) xs)) h
+
+-- the depth of a scope, slot by slot
+module _ (scope : List ℕ) (i : ℕ) (at : depth-of scope ≡ i + depth-of (drop i scope)) where
+  depth-next : i < length scope → depth-of (drop i scope) ≡ cond (eqb (getD scope i 0) 0) 0 (suc (depth-of (drop (i + 1) scope)))
+  unfolding depth-of
+  depth-next l = at-drop-more depth-of scope i 0 l
+
+  pub depth-all : length scope ≤ i → depth-of scope ≡ i
+  unfolding depth-of
+  depth-all l = let e : depth-of (drop i scope) ≡ 0 = at-drop-all depth-of scope i l in omega (arith, e, at)
+
+  pub depth-more : i < length scope → (getD scope i 0 ≡ 0 → ⊥) → depth-of scope ≡ (i + 1) + depth-of (drop (i + 1) scope)
+  depth-more l ne =
+      let e : depth-of (drop i scope) ≡ suc (depth-of (drop (i + 1) scope)) = depth-next l ∙ ap (λ b. cond b 0 (suc (depth-of (drop (i + 1) scope)))) (ne-eqb (getD scope i 0) 0 ne) in
+      omega (arith, e, at)
+
+  pub depth-here : i < length scope → getD scope i 0 ≡ 0 → depth-of scope ≡ i
+  depth-here l is =
+      let e : depth-of (drop i scope) ≡ 0 = depth-next l ∙ ap (λ b. cond b 0 (suc (depth-of (drop (i + 1) scope)))) (eq-eqb (getD scope i 0) 0 is) in
+      omega (arith, e, at)
+
+-- a scope that is used up to slot i
+module _ (classes : List Class) (scope : List ℕ) (i : ℕ) (at : scope-ok classes scope ≡ scope-ok classes (drop i scope)) where
+  scope-next : i < length scope → scope-ok classes scope ≡ cond (eqb (getD scope i 0) 0) (is-empty (drop (i + 1) scope)) (is-class classes (getD scope i 0) && scope-ok classes (drop (i + 1) scope))
+  scope-next l = at ∙ at-drop-more (scope-ok classes) scope i 0 l
+
+  pub scope-all : length scope ≤ i → scope-ok classes scope ≡ true
+  scope-all l = at ∙ at-drop-all (scope-ok classes) scope i l
+
+  pub scope-rest : i < length scope → getD scope i 0 ≡ 0 → scope-ok classes scope ≡ is-empty (drop (i + 1) scope)
+  scope-rest l is = scope-next l ∙ ap (λ b. cond b (is-empty (drop (i + 1) scope)) (is-class classes (getD scope i 0) && scope-ok classes (drop (i + 1) scope))) (eq-eqb (getD scope i 0) 0 is)
+
+  module _ (l : i < length scope) (ne : getD scope i 0 ≡ 0 → ⊥) where
+    used-next : scope-ok classes scope ≡ (is-class classes (getD scope i 0) && scope-ok classes (drop (i + 1) scope))
+    used-next = scope-next l ∙ ap (λ b. cond b (is-empty (drop (i + 1) scope)) (is-class classes (getD scope i 0) && scope-ok classes (drop (i + 1) scope))) (ne-eqb (getD scope i 0) 0 ne)
+
+    pub scope-more : is-class classes (getD scope i 0) ≡ true → scope-ok classes scope ≡ scope-ok classes (drop (i + 1) scope)
+    scope-more h = used-next ∙ ap (λ b. b && scope-ok classes (drop (i + 1) scope)) h
+
+    pub scope-fails : is-class classes (getD scope i 0) ≡ false → scope-ok classes scope ≡ false
+    scope-fails h = used-next ∙ ap (λ b. b && scope-ok classes (drop (i + 1) scope)) h
+
+pub depth-le : (scope : List ℕ) → depth-of scope ≤ length scope
+unfolding depth-of
+depth-le [] = omega arith
+depth-le (c ∷ cs) = let h = depth-le cs in grind (arith, tells)
+
+pub same-scope-decides : (xs ys : List ℕ) → Decides (same-scope xs ys) (xs ≡ ys)
+same-scope-decides xs ys = compares-decides same-scope (search needs) xs ys
+
+pub heads-few : (classes : List Class) (nodes : List Node) → heads-ok classes nodes ≡ true → length nodes ≤ most-nodes
+unfolding heads-ok
+heads-few classes nodes h = grind (arith, tells)

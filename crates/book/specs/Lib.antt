@@ -1,0 +1,4 @@
+pub mod Limits
+pub mod Lowest
+pub mod Rules
+pub mod Whole

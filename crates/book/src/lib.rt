@@ -1,0 +1,17 @@
+// Rule books: classes of elements and a table of formula nodes, some of them premises.
+mod atoms;
+mod made;
+mod parts;
+mod rules;
+
+pub use made::Book;
+pub use parts::Atom;
+pub use parts::AtomDebug;
+pub use parts::Class;
+pub use parts::ClassDebug;
+pub use parts::Formula;
+pub use parts::FormulaDebug;
+pub use parts::Node;
+pub use parts::NodeDebug;
+pub use parts::Term;
+pub use parts::TermDebug;
