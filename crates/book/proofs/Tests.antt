@@ -12,7 +12,7 @@ use Rattle.std.specs.Orderings.{Decides}
 use Rattle.std.proofs.shelf.Equals.{compares-decides}
 use Rattle.std.proofs.shelf.Tests.{eq-eqb, ne-eqb}
 use Rattle.std.proofs.shelf.Ways.{tells}
-use Rattle.book.specs.Rules.{depth-of, is-empty, scope-ok, same-scope, is-class, heads-ok}
+use Rattle.book.specs.Rules.{depth-of, is-empty, slots-ok, same-scope, is-class, heads-ok}
 use Rattle.book.specs.Limits.{most-nodes}
 use Rattle.book.specs.declared.parts.Class.{Class}
 use Rattle.book.specs.declared.parts.Node.{Node}
@@ -52,25 +52,25 @@ module _ (scope : List ℕ) (i : ℕ) (at : depth-of scope ≡ i + depth-of (dro
       omega (arith, e, at)
 
 -- a scope that is used up to slot i
-module _ (classes : List Class) (scope : List ℕ) (i : ℕ) (at : scope-ok classes scope ≡ scope-ok classes (drop i scope)) where
-  scope-next : i < length scope → scope-ok classes scope ≡ cond (eqb (getD scope i 0) 0) (is-empty (drop (i + 1) scope)) (is-class classes (getD scope i 0) && scope-ok classes (drop (i + 1) scope))
-  scope-next l = at ∙ at-drop-more (scope-ok classes) scope i 0 l
+module _ (classes : List Class) (scope : List ℕ) (i : ℕ) (at : slots-ok classes scope ≡ slots-ok classes (drop i scope)) where
+  scope-next : i < length scope → slots-ok classes scope ≡ cond (eqb (getD scope i 0) 0) (is-empty (drop (i + 1) scope)) (is-class classes (getD scope i 0) && slots-ok classes (drop (i + 1) scope))
+  scope-next l = at ∙ at-drop-more (slots-ok classes) scope i 0 l
 
-  pub scope-all : length scope ≤ i → scope-ok classes scope ≡ true
-  scope-all l = at ∙ at-drop-all (scope-ok classes) scope i l
+  pub scope-all : length scope ≤ i → slots-ok classes scope ≡ true
+  scope-all l = at ∙ at-drop-all (slots-ok classes) scope i l
 
-  pub scope-rest : i < length scope → getD scope i 0 ≡ 0 → scope-ok classes scope ≡ is-empty (drop (i + 1) scope)
-  scope-rest l is = scope-next l ∙ ap (λ b. cond b (is-empty (drop (i + 1) scope)) (is-class classes (getD scope i 0) && scope-ok classes (drop (i + 1) scope))) (eq-eqb (getD scope i 0) 0 is)
+  pub scope-rest : i < length scope → getD scope i 0 ≡ 0 → slots-ok classes scope ≡ is-empty (drop (i + 1) scope)
+  scope-rest l is = scope-next l ∙ ap (λ b. cond b (is-empty (drop (i + 1) scope)) (is-class classes (getD scope i 0) && slots-ok classes (drop (i + 1) scope))) (eq-eqb (getD scope i 0) 0 is)
 
   module _ (l : i < length scope) (ne : getD scope i 0 ≡ 0 → ⊥) where
-    used-next : scope-ok classes scope ≡ (is-class classes (getD scope i 0) && scope-ok classes (drop (i + 1) scope))
-    used-next = scope-next l ∙ ap (λ b. cond b (is-empty (drop (i + 1) scope)) (is-class classes (getD scope i 0) && scope-ok classes (drop (i + 1) scope))) (ne-eqb (getD scope i 0) 0 ne)
+    used-next : slots-ok classes scope ≡ (is-class classes (getD scope i 0) && slots-ok classes (drop (i + 1) scope))
+    used-next = scope-next l ∙ ap (λ b. cond b (is-empty (drop (i + 1) scope)) (is-class classes (getD scope i 0) && slots-ok classes (drop (i + 1) scope))) (ne-eqb (getD scope i 0) 0 ne)
 
-    pub scope-more : is-class classes (getD scope i 0) ≡ true → scope-ok classes scope ≡ scope-ok classes (drop (i + 1) scope)
-    scope-more h = used-next ∙ ap (λ b. b && scope-ok classes (drop (i + 1) scope)) h
+    pub scope-more : is-class classes (getD scope i 0) ≡ true → slots-ok classes scope ≡ slots-ok classes (drop (i + 1) scope)
+    scope-more h = used-next ∙ ap (λ b. b && slots-ok classes (drop (i + 1) scope)) h
 
-    pub scope-fails : is-class classes (getD scope i 0) ≡ false → scope-ok classes scope ≡ false
-    scope-fails h = used-next ∙ ap (λ b. b && scope-ok classes (drop (i + 1) scope)) h
+    pub scope-fails : is-class classes (getD scope i 0) ≡ false → slots-ok classes scope ≡ false
+    scope-fails h = used-next ∙ ap (λ b. b && slots-ok classes (drop (i + 1) scope)) h
 
 pub depth-le : (scope : List ℕ) → depth-of scope ≤ length scope
 unfolding depth-of

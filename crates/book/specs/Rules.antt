@@ -50,9 +50,13 @@ is-empty [] = true
 is-empty (c ∷ cs) = eqb c 0 && is-empty cs
 
 -- used slots first, with a class in each, and 0 in the rest
+abbrev pub slots-ok : List Class → List ℕ → Bool
+slots-ok classes [] = true
+slots-ok classes (c ∷ cs) = cond (eqb c 0) (is-empty cs) (is-class classes c && slots-ok classes cs)
+
+-- a scope has six slots
 abbrev pub scope-ok : List Class → List ℕ → Bool
-scope-ok classes [] = true
-scope-ok classes (c ∷ cs) = cond (eqb c 0) (is-empty cs) (is-class classes c && scope-ok classes cs)
+scope-ok classes scope = eqb (length scope) slot-count && slots-ok classes scope
 
 abbrev pub same-scope : List ℕ → List ℕ → Bool
 same-scope [] [] = true

@@ -8,7 +8,7 @@ ghost use lib.ListN.{length, getD};
 ghost use Rattle.std.specs.Results.{Cases};
 ghost use Rattle.book.specs.Limits.{largest-constant};
 ghost use Rattle.book.specs.Lowest.{Holds-to, Lowest};
-ghost use Rattle.book.specs.Rules.{from-to, is-class, attributes-of, class-ok, classes-ok, depth-of, is-empty, scope-ok, same-scope, term-ok, terms-ok, atom-ok, child-ok, body-ok, formula-ok, node-ok, some-premise, premise-ok, premises-ok, counts-ok, marks-ok, heads-ok, no-node, Well-formed, Refused};
+ghost use Rattle.book.specs.Rules.{from-to, is-class, attributes-of, class-ok, classes-ok, depth-of, is-empty, slots-ok, scope-ok, same-scope, term-ok, terms-ok, atom-ok, child-ok, body-ok, formula-ok, node-ok, some-premise, premise-ok, premises-ok, counts-ok, marks-ok, heads-ok, no-node, Well-formed, Refused};
 use crate::parts::Atom;
 use crate::parts::Class;
 use crate::parts::Formula;
@@ -74,8 +74,8 @@ fn known(classes: &[Class], class: u32) -> bool
     from_to(1, classes.len(), class as usize)
 }
 
-fn scope_fits(classes: &[Class], scope: &[u32]) -> bool
-    ensures { λ r. ⌜ r ≡ scope-ok (now (classes .entry)) (now (scope .entry)) ⌝ }
+fn slots_fit(classes: &[Class], scope: &[u32]) -> bool
+    ensures { λ r. ⌜ r ≡ slots-ok (now (classes .entry)) (now (scope .entry)) ⌝ }
 {
     for i in 0..scope.len() {
         if scope[i] == 0 {
@@ -86,6 +86,12 @@ fn scope_fits(classes: &[Class], scope: &[u32]) -> bool
         }
     }
     true
+}
+
+fn scope_fits(classes: &[Class], scope: &[u32; 6]) -> bool
+    ensures { λ r. ⌜ r ≡ scope-ok (now (classes .entry)) (now (scope .entry)) ⌝ }
+{
+    slots_fit(classes, scope)
 }
 
 // How many attributes a class has; 0 where there is no such class.

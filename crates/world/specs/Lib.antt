@@ -1,0 +1,5 @@
+pub mod Inner
+pub mod Laws
+pub mod Test
+pub mod Truth
+pub mod Worlds
