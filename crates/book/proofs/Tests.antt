@@ -1,5 +1,6 @@
 -- Tests that go along a list, one element a turn.
-use mathlib.Core.Path.{_≡_, refl, sym, ap, _∙_}
+use mathlib.Core.Path.{_≡_, refl, sym, ap, subst, _∙_}
+use mathlib.Core.Logic.{⊎-elim}
 use mathlib.Core.List.{List, [], _∷_}
 use mathlib.Core.Bool.{Bool, true, false, cond, _&&_}
 use Prim.Native.Nat.{ℕ, zero, suc, _+_, _≤_, _<_}
@@ -10,10 +11,11 @@ use Rattle.std.proofs.shelf.Lists.{at-drop-more, at-drop-all}
 use borrow.Author.Needs.{needs}
 use Rattle.std.specs.Orderings.{Decides}
 use Rattle.std.proofs.shelf.Equals.{compares-decides}
-use Rattle.std.proofs.shelf.Tests.{eq-eqb, ne-eqb}
+use Rattle.std.proofs.shelf.Tests.{eq-eqb, ne-eqb, cases-lt}
 use Rattle.std.proofs.shelf.Ways.{tells}
 use Rattle.book.specs.Rules.{depth-of, is-empty, slots-ok, same-scope, is-class, heads-ok}
 use Rattle.book.specs.Limits.{most-nodes}
+use Rattle.book.specs.Lowest.{Holds-to}
 use Rattle.book.specs.declared.parts.Class.{Class}
 use Rattle.book.specs.declared.parts.Node.{Node}
 
@@ -83,3 +85,8 @@ same-scope-decides xs ys = compares-decides same-scope (search needs) xs ys
 pub heads-few : (classes : List Class) (nodes : List Node) → heads-ok classes nodes ≡ true → length nodes ≤ most-nodes
 unfolding heads-ok
 heads-few classes nodes h = grind (arith, tells)
+
+-- a test that holds at each number to i, and at the next
+pub holds-more : (i : ℕ) (test : ℕ → Bool) → Holds-to i test → test (i + 1) ≡ true → Holds-to (i + 1) test
+holds-more i test h here k low high =
+    ⊎-elim (λ (l : k < i + 1). h k low (omega arith)) (λ (g : i + 1 ≤ k). let e : i + 1 ≡ k = omega arith in subst (λ n. test n ≡ true) e here) (cases-lt k (i + 1))

@@ -5,11 +5,12 @@ ghost use lib.ListN.{length};
 ghost use Rattle.std.specs.Of.Vec.{vec-items};
 ghost use Rattle.std.specs.Results.{Cases};
 ghost use Rattle.book.specs.Lowest.{Holds-to};
-ghost use Rattle.book.specs.Rules.{attributes-of, heads-ok, node-ok, Well-formed, Refused};
+ghost use Rattle.book.specs.Rules.{is-class, attributes-of, heads-ok, node-ok, Well-formed, Refused};
 use crate::parts::Class;
 use crate::parts::Node;
 use crate::rules::attributes;
 use crate::rules::inspect;
+use crate::rules::known;
 use causes::Cause;
 
 #[derive(Drop)]
@@ -33,6 +34,12 @@ impl Book {
         ensures { λ r. ⌜ now r ≡ vec-items (now (self .entry) .classes) ⌝ }
     {
         self.classes.as_slice()
+    }
+
+    pub fn has_class(&self, class: u32) -> bool
+        ensures { λ r. ⌜ r ≡ is-class (vec-items (now (self .entry) .classes)) class ⌝ }
+    {
+        known(self.classes.as_slice(), class)
     }
 
     // How many attributes a class has; 0 where there is no such class.

@@ -68,7 +68,7 @@ fn from_to(low: usize, high: usize, n: usize) -> bool
     low <= n && n <= high
 }
 
-fn known(classes: &[Class], class: u32) -> bool
+pub(crate) fn known(classes: &[Class], class: u32) -> bool
     ensures { λ r. ⌜ r ≡ is-class (now (classes .entry)) class ⌝ }
 {
     from_to(1, classes.len(), class as usize)
@@ -95,7 +95,7 @@ fn scope_fits(classes: &[Class], scope: &[u32; 6]) -> bool
 }
 
 // How many attributes a class has; 0 where there is no such class.
-pub fn attributes(classes: &[Class], class: u32) -> u32
+pub(crate) fn attributes(classes: &[Class], class: u32) -> u32
     ensures { λ r. ⌜ r ≡ attributes-of (now (classes .entry)) class ⌝ }
 {
     if known(classes, class) {
@@ -273,7 +273,7 @@ fn heads_fit(classes: &[Class], nodes: &[Node]) -> bool
 }
 
 // Every rule of a book, or the first fault.
-pub fn inspect(classes: &[Class], nodes: &[Node]) -> Result<(), Cause>
+pub(crate) fn inspect(classes: &[Class], nodes: &[Node]) -> Result<(), Cause>
     ensures { λ r. ⌜ Cases r (λ _. Well-formed (now (classes .entry)) (now (nodes .entry))) (λ e. Refused (now (classes .entry)) (now (nodes .entry)) e) ⌝ }
 {
     if !heads_fit(classes, nodes) {

@@ -56,7 +56,7 @@ term-bounded classes scope six t h =
     let q = and-parts (ltb (t .slot) (depth-of scope)) _ (p .1) in
     record {
       coefficient = leb-true (natAbs (t .coefficient)) largest-coefficient (p .0);
-      slot = omega (arith, six, depth-le scope, ltb-true (t .slot) (depth-of scope) (q .0))
+      slot = omega (arith, six, depth-le scope, ltb-true (t .slot) (depth-of scope) (q .0));
     }
 
 terms-bounded : (classes : List Class) (scope : List ℕ) → length scope ≤ slot-count → (ts : List Term) → terms-ok classes scope ts ≡ true → (i : ℕ) → i < length ts → Bounded-term (getD ts i no-term)
@@ -75,9 +75,9 @@ atom-bounded classes scope six a h =
     record {
       few = leb-true (a .count) most-terms (p .0);
       each = λ i l. ⊎-elim
-        (λ (k : i < length (a .terms)). subst Bounded-term (getD-take (a .count) (a .terms) i no-term l) (terms-bounded classes scope six (terms-of a) (q .0) i (simp length-take (omega arith))))
-        (λ k. subst Bounded-term (sym (getD-past (a .terms) i no-term k)) no-term-bounded)
-        (cases-lt i (length (a .terms)))
+          (λ (k : i < length (a .terms)). subst Bounded-term (getD-take (a .count) (a .terms) i no-term l) (terms-bounded classes scope six (terms-of a) (q .0) i (simp length-take (omega arith))))
+          (λ k. subst Bounded-term (sym (getD-past (a .terms) i no-term k)) no-term-bounded)
+          (cases-lt i (length (a .terms)));
     }
 
 -- the rules of node n, as far as its evaluation needs them

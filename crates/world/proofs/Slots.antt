@@ -8,17 +8,16 @@ use lib.IntN.{ℤ, pos}
 use lib.ListN.{length, getD, set}
 use denote.Ref.{now}
 use Rattle.std.proofs.shelf.Lists.{getD-map, getD-past, length-map, map-set}
-use Rattle.world.specs.Worlds.{World, Element, world-of, no-element}
-use Rattle.world.specs.Truth.{Env, reading}
+use Rattle.world.specs.Worlds.{World, Element, element-of, element-at, world-of, no-element}
+use Rattle.world.specs.Truth.{Env, nothing, reading}
 use Rattle.world.specs.Inner.{values-at, env-of}
 use Rattle.world.specs.declared.parts.Element.{Element as Given}
 
-
 pub length-world : (log : List Given) → length (world-of log) ≡ length log
-length-world log = length-map log (λ e. record { class = e .class; values = now (e .values) })
+length-world log = length-map log element-of
 
-pub world-at : (log : List Given) (i : ℕ) (d : Given) → i < length log → getD (world-of log) i no-element ≡ record { class = getD log i d .class; values = now (getD log i d .values) }
-world-at log i d l = getD-map (λ e. record { class = e .class; values = now (e .values) }) log i d no-element l
+pub world-at : (log : List Given) (i : ℕ) (d : Given) → i < length log → getD (world-of log) i no-element ≡ element-of (getD log i d)
+world-at log i d l = getD-map element-of log i d no-element l
 
 pub values-in : (log : List Given) (k : ℕ) (d : Given) → (k ≡ 0 → ⊥) → k ≤ length log → values-at (world-of log) k ≡ now (getD log (k - 1) d .values)
 unfolding values-at
@@ -54,3 +53,10 @@ inside log i l = omega (arith, length-world log)
 
 pub outside : (log : List Given) (i : ℕ) → length log ≤ i → length (world-of log) ≤ i
 outside log i l = omega (arith, length-world log)
+
+pub element-next : (log : List Given) (i : ℕ) (d : Given) → i < length log → element-at (world-of log) (i + 1) ≡ element-of (getD log i d)
+element-next log i d l = let e : i + 1 - 1 ≡ i = omega arith in ap (λ k. getD (world-of log) k no-element) e ∙ world-at log i d l
+
+pub empty-slots : (world : World) → env-of world (0 ∷ 0 ∷ 0 ∷ 0 ∷ 0 ∷ 0 ∷ []) ≡ nothing
+unfolding values-at
+empty-slots world = refl

@@ -5,16 +5,19 @@ use Prim.Native.Nat.{ℕ, zero, suc, _*_, _+_, _≤_, _<_}
 use lib.IntN.{ℤ, pos, natAbs}
 use lib.ListN.{length, getD}
 use Rattle.causes.specs.declared.cause.Cause.{Cause}
-use Rattle.causes.specs.declared.cause.Cause.the-variants.{OverBudget}
+use Rattle.causes.specs.declared.cause.Cause.the-variants.{BadWorld, OverBudget}
 use Rattle.book.specs.Limits.{most-terms, slot-count, largest-coefficient}
 use Rattle.book.specs.Rules.{no-term}
 use Rattle.book.specs.declared.parts.Atom.{Atom}
+use Rattle.book.specs.declared.parts.Class.{Class}
 use Rattle.book.specs.declared.parts.Node.{Node}
 use Rattle.book.specs.declared.parts.Term.{Term}
 use Rattle.std.specs.declared.result.Result.{Result}
 use Rattle.std.specs.declared.result.Result.the-variants.{Ok, Err}
 use Rattle.world.specs.Worlds.{World, no-element, largest-value, most-elements}
 use Rattle.world.specs.Truth.{Env}
+use Rattle.world.specs.Test.{Unfit}
+use Rattle.world.specs.declared.parts.Answer.{Answer}
 use Rattle.world.specs.declared.parts.Evaluation.{Evaluation}
 
 -- In the program a slot holds an element's number, or 0.
@@ -48,3 +51,12 @@ pub record Ready (nodes : List Node) (world : World) (n : ℕ) : Type 0 where
 abbrev pub Told : ℕ → Evaluation → Result Evaluation Cause → Type 0
 Told budget o (Ok a) = (a ≡ o) × (o .visits ≤ budget)
 Told budget o (Err e) = (e ≡ OverBudget) × (budget < o .visits)
+
+-- the premises' answer within a budget
+abbrev pub Given-within : ℕ → Answer → Result Answer Cause → Type 0
+Given-within budget o (Ok a) = (a ≡ o) × (o .visits ≤ budget)
+Given-within budget o (Err e) = (e ≡ OverBudget) × (budget < o .visits)
+
+-- a refusal of the elements
+abbrev pub Unfit-by : List Class → World → Cause → Type 0
+Unfit-by classes world e = (d : ℕ) × (e ≡ BadWorld d) × Unfit classes world d

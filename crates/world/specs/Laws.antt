@@ -22,7 +22,6 @@ use Rattle.world.specs.declared.parts.Answer.{Answer}
 use Rattle.world.specs.declared.parts.Verdict.the-variants.{Yes, No}
 
 infix 1 _⇔_
-
 abbrev pub _⇔_ : Type 0 → Type 0 → Type 0
 P ⇔ Q = (P → Q) × (Q → P)
 

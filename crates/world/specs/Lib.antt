@@ -1,5 +1,6 @@
 pub mod Inner
 pub mod Laws
 pub mod Test
+pub mod Texts
 pub mod Truth
 pub mod Worlds

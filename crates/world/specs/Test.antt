@@ -38,10 +38,14 @@ pub record Testable (classes : List Class) (world : World) : Type 0 where
   pub few : length world ≤ most-elements
   pub each : Holds-to (length world) (λ k. element-ok classes (element-at world k))
 
--- an answer or a refusal of the world test
+-- why it cannot take a list of elements, as the detail of the refusal: 0 for too many, else the first bad element
+abbrev pub Unfit : List Class → World → ℕ → Type 0
+Unfit classes world d =
+    ((most-elements < length world) × (d ≡ 0)) ⊎ ((length world ≤ most-elements) × Lowest (length world) (λ k. element-ok classes (element-at world k)) d)
+
+-- WHAT THE WORLD TEST RETURNS
 abbrev pub Answered : List Class → List Node → World → ℕ → Result Answer Cause → Type 0
 Answered classes nodes world budget (Ok a) = Testable classes world × (a ≡ tested nodes world) × (tested nodes world .visits ≤ budget)
 Answered classes nodes world budget (Err (BadBook d)) = ⊥
-Answered classes nodes world budget (Err (BadWorld d)) =
-    ((most-elements < length world) × (d ≡ 0)) ⊎ ((length world ≤ most-elements) × Lowest (length world) (λ k. element-ok classes (element-at world k)) d)
+Answered classes nodes world budget (Err (BadWorld d)) = Unfit classes world d
 Answered classes nodes world budget (Err OverBudget) = Testable classes world × (budget < tested nodes world .visits)

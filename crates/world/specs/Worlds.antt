@@ -19,8 +19,11 @@ abbrev pub World : Type 0
 World = List Element
 
 -- the world that a program's list of elements stands for
+abbrev pub element-of : Given → Element
+element-of e = record { class = e .class; values = now (e .values) }
+
 abbrev pub world-of : List Given → World
-world-of es = map (λ e. record { class = e .class; values = now (e .values) }) es
+world-of es = map element-of es
 
 abbrev pub no-element : Element
 no-element = record { class = 0; values = [] }

@@ -7,7 +7,6 @@ ghost use Rattle.book.specs.Limits.{largest-coefficient};
 ghost use Rattle.world.specs.Worlds.{world-of, largest-value};
 ghost use Rattle.world.specs.Truth.{reading, product, worth as meaning};
 ghost use Rattle.world.specs.Inner.{values-at, env-of, Calm, Bounded-term, Bounded};
-
 use crate::parts::Element;
 use book::Atom;
 use book::Term;
@@ -36,7 +35,7 @@ fn part(t: &Term, log: &[Element], slots: &[u32; 6]) -> i64
     i64::from(t.coefficient) * x
 }
 
-pub fn worth(a: &Atom, log: &[Element], slots: &[u32; 6]) -> i64
+pub(crate) fn worth(a: &Atom, log: &[Element], slots: &[u32; 6]) -> i64
     requires atom { ⌜ Bounded (now a) ⌝ }
     requires calm { ⌜ Calm (world-of (now log)) ⌝ }
     ensures { λ r. ⌜ r ≡ meaning (env-of (world-of (now (log .entry))) (now (slots .entry))) (now (a .entry)) ⌝ }

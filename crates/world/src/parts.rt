@@ -9,14 +9,14 @@ pub struct Element<'a> {
 
 // Whether a node is true, and how many elements were visited to tell.
 #[derive(Clone, Copy)]
-pub struct Evaluation {
+pub(crate) struct Evaluation {
     pub truth: bool,
     pub visits: u32,
 }
 
 // A quantifier over a class, whose elements go into a slot until the body's truth is `want`.
 #[derive(Clone, Copy)]
-pub struct Quantifier {
+pub(crate) struct Quantifier {
     pub class: u32,
     pub body: u32,
     pub slot: usize,

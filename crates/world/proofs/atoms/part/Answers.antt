@@ -25,5 +25,5 @@ returns c =
     let s = slot-reading (world-of (c .args .log .now)) (c .args .slots .now) (t .slot) (t .attribute) (omega arith) in
     record {
       value = e ∙ ap (λ z. t .coefficient *ℤ z) s;
-      size = rw e (product-size (t .coefficient) (c .from .result) y (c .value-x .result) h l (c .from .ensures) (c .value-x .ensures))
+      size = rw e (product-size (t .coefficient) (c .from .result) y (c .value-x .result) h l (c .from .ensures) (c .value-x .ensures));
     }

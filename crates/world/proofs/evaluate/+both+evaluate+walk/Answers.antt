@@ -132,13 +132,14 @@ walk-returns-then-b-q t c =
 pub walk-loop-i-again : need.walk-loop-i-again
 walk-loop-i-again t c =
     elim (c .if-e-q .came) [
-      walk-then-e-q·else-visits-budget·in-Continue-b·else-b-q w ↦
-        (let k = w .in-Continue-b .ensures tt in
-    let said : Env → Evaluation = evaluated (nodes-of (c .args .book .now)) (world-of (c .args .log .now)) (c .args .q .body) in
-    let s = slot-set (world-of (c .args .log .now)) (c .args .slots) (c .args .q .slot) (c .loop-i .i) in
-        rw (w .visits-is) (walk-goes (c .args .q .want) (c .args .q .class) (body-of (nodes-of (c .args .book .now)) (world-of (c .args .log .now)) (c .args .q .body) (env-of (world-of (c .args .log .now)) (c .args .slots)) (c .args .q .slot)) (world-of (c .args .log .now)) (c .loop-i .i) (c .args .budget) (c .loop-i .visits) (c .loop-i .inv) (inside (c .args .log .now) (c .loop-i .i) (c .loop-i-test .taken)) (class-at (c .args .log .now) (c .loop-i .i) _ (c .loop-i-test .taken) ∙ w .if-e-q .taken) (w .in-Continue-b .b) (k .0 ∙ ap said s) (w .if-visits-budget .left) (subst (λ e. said e .visits ≤ c .args .budget - (c .loop-i .visits + 1)) s (k .1)) (beq-other (w .in-Continue-b .b .truth) (c .args .q .want) (w .if-b-q .left))))
-    | walk-else-e-q w ↦
-        rw (w .visits-is) (walk-skips (c .args .q .want) (c .args .q .class) (body-of (nodes-of (c .args .book .now)) (world-of (c .args .log .now)) (c .args .q .body) (env-of (world-of (c .args .log .now)) (c .args .slots)) (c .args .q .slot)) (world-of (c .args .log .now)) (c .loop-i .i) (c .args .budget) (c .loop-i .visits) (c .loop-i .inv) (inside (c .args .log .now) (c .loop-i .i) (c .loop-i-test .taken)) (λ e. w .if-e-q .left (sym (class-at (c .args .log .now) (c .loop-i .i) _ (c .loop-i-test .taken)) ∙ e))) ]
+      | walk-then-e-q·else-visits-budget·in-Continue-b·else-b-q w ↦
+          (let k = w .in-Continue-b .ensures tt in
+          let said : Env → Evaluation = evaluated (nodes-of (c .args .book .now)) (world-of (c .args .log .now)) (c .args .q .body) in
+          let s = slot-set (world-of (c .args .log .now)) (c .args .slots) (c .args .q .slot) (c .loop-i .i) in
+          rw (w .visits-is) (walk-goes (c .args .q .want) (c .args .q .class) (body-of (nodes-of (c .args .book .now)) (world-of (c .args .log .now)) (c .args .q .body) (env-of (world-of (c .args .log .now)) (c .args .slots)) (c .args .q .slot)) (world-of (c .args .log .now)) (c .loop-i .i) (c .args .budget) (c .loop-i .visits) (c .loop-i .inv) (inside (c .args .log .now) (c .loop-i .i) (c .loop-i-test .taken)) (class-at (c .args .log .now) (c .loop-i .i) _ (c .loop-i-test .taken) ∙ w .if-e-q .taken) (w .in-Continue-b .b) (k .0 ∙ ap said s) (w .if-visits-budget .left) (subst (λ e. said e .visits ≤ c .args .budget - (c .loop-i .visits + 1)) s (k .1)) (beq-other (w .in-Continue-b .b .truth) (c .args .q .want) (w .if-b-q .left))))
+      | walk-else-e-q w ↦
+          rw (w .visits-is) (walk-skips (c .args .q .want) (c .args .q .class) (body-of (nodes-of (c .args .book .now)) (world-of (c .args .log .now)) (c .args .q .body) (env-of (world-of (c .args .log .now)) (c .args .slots)) (c .args .q .slot)) (world-of (c .args .log .now)) (c .loop-i .i) (c .args .budget) (c .loop-i .visits) (c .loop-i .inv) (inside (c .args .log .now) (c .loop-i .i) (c .loop-i-test .taken)) (λ e. w .if-e-q .left (sym (class-at (c .args .log .now) (c .loop-i .i) _ (c .loop-i-test .taken)) ∙ e)))
+    ]
 
 pub walk-returns : need.walk-returns
 walk-returns t c = walk-ends (c .args .q .want) (c .args .q .class) (body-of (nodes-of (c .args .book .now)) (world-of (c .args .log .now)) (c .args .q .body) (env-of (world-of (c .args .log .now)) (c .args .slots)) (c .args .q .slot)) (world-of (c .args .log .now)) (c .loop-i .i) (c .args .budget) (c .loop-i .visits) (c .loop-i .inv) (outside (c .args .log .now) (c .loop-i .i) (c .loop-i-test .left))
