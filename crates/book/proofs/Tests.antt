@@ -10,12 +10,18 @@ use lib.ListN.{length, getD, drop}
 use Rattle.std.proofs.shelf.Lists.{at-drop-more, at-drop-all}
 use borrow.Author.Needs.{needs}
 use Rattle.std.specs.Orderings.{Decides}
+use Rattle.std.specs.Results.{Cases}
+use Rattle.std.specs.declared.result.Result.{Result}
+use Rattle.std.specs.declared.result.Result.the-variants.{Ok, Err}
 use Rattle.std.proofs.shelf.Equals.{compares-decides}
-use Rattle.std.proofs.shelf.Tests.{eq-eqb, ne-eqb, cases-lt}
+use Rattle.std.proofs.shelf.Tests.{eq-eqb, ne-eqb, and-parts, both-ways, cases-lt}
 use Rattle.std.proofs.shelf.Ways.{tells}
-use Rattle.book.specs.Rules.{depth-of, is-empty, slots-ok, same-scope, is-class, heads-ok}
+use Rattle.book.specs.Rules.{depth-of, is-empty, slots-ok, same-scope, is-class, heads-ok, node-ok, Well-formed, Refused}
+use Rattle.causes.specs.declared.cause.Cause.{Cause}
 use Rattle.book.specs.Limits.{most-nodes}
 use Rattle.book.specs.Lowest.{Holds-to}
+use Rattle.book.specs.Whole.{classes-of, nodes-of, Making}
+use Rattle.book.specs.declared.made.Book.{Book}
 use Rattle.book.specs.declared.parts.Class.{Class}
 use Rattle.book.specs.declared.parts.Node.{Node}
 
@@ -90,3 +96,34 @@ heads-few classes nodes h = grind (arith, tells)
 pub holds-more : (i : ℕ) (test : ℕ → Bool) → Holds-to i test → test (i + 1) ≡ true → Holds-to (i + 1) test
 holds-more i test h here k low high =
     ⊎-elim (λ (l : k < i + 1). h k low (omega arith)) (λ (g : i + 1 ≤ k). let e : i + 1 ≡ k = omega arith in subst (λ n. test n ≡ true) e here) (cases-lt k (i + 1))
+
+-- a test that is computed at each number from count down to 1
+abbrev pub holds-down : ℕ → (ℕ → Bool) → Bool
+holds-down zero test = true
+holds-down (suc k) test = test (suc k) && holds-down k test
+
+pub holds-by : (count : ℕ) (test : ℕ → Bool) → holds-down count test ≡ true → Holds-to count test
+holds-by zero test h k low high = absurd (omega arith)
+holds-by (suc n) test h k low high =
+    let p = and-parts (test (suc n)) (holds-down n test) h in
+    ⊎-elim
+    (λ (l : k < suc n). holds-by n test (p .1) k low (omega arith))
+    (λ (g : suc n ≤ k). let e : suc n ≡ k = omega arith in subst (λ m. test m ≡ true) e (p .0))
+    (cases-lt k (suc n))
+
+-- a book is granted or refused, never both
+pub never-both : (classes : List Class) (nodes : List Node) (e : Cause) → Well-formed classes nodes → Refused classes nodes e → ⊥
+never-both classes nodes e ok refused =
+    ⊎-elim
+    (λ h. both-ways (heads-ok classes nodes) (h .0) (ok .0))
+    (λ h. both-ways (node-ok classes nodes (refused .0)) (h .1 .fails) (ok .1 (refused .0) (h .1 .low) (h .1 .high)))
+    (refused .2)
+
+-- what making returns, at equal classes and nodes
+pub making-at : (cs classes : List Class) (ns nodes : List Node) → cs ≡ classes → ns ≡ nodes → (r : Result Book Cause) →
+    Cases r (λ b. (classes-of b ≡ cs) × (nodes-of b ≡ ns) × Well-formed cs ns) (λ e. Refused cs ns e) → Making classes nodes r
+making-at cs classes ns nodes p q r h = subst (λ xs. Making xs nodes r) p (subst (λ ys. Making cs ys r) q (from r h))
+  where
+    from : (r : Result Book Cause) → Cases r (λ b. (classes-of b ≡ cs) × (nodes-of b ≡ ns) × Well-formed cs ns) (λ e. Refused cs ns e) → Making cs ns r
+    from (Ok b) h = h
+    from (Err e) h = h
