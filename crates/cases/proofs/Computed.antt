@@ -1,5 +1,5 @@
 -- The worked cases, computed.
-use mathlib.Core.Path.{_≡_, refl, subst}
+use mathlib.Core.Path.{_≡_, refl, sym, subst}
 use mathlib.Core.Bool.{true}
 use mathlib.Core.List.{List, [], _∷_}
 use mathlib.Core.Logic.{inr}
@@ -62,3 +62,6 @@ worked-cases = record {
 -- no call refuses a book that keeps the rules
 pub not-refused : (cs classes : List Class) (ns nodes : List Node) → cs ≡ classes → ns ≡ nodes → Well-formed classes nodes → (e : Cause) → Refused cs ns e → ⊥
 not-refused cs classes ns nodes p q ok e h = never-both classes nodes e ok (subst (λ xs. Refused xs nodes e) p (subst (λ ys. Refused cs ys e) q h))
+
+pub lawful-at : (cs classes : List Class) (ns nodes : List Node) → cs ≡ classes → ns ≡ nodes → Well-formed classes nodes → Well-formed cs ns
+lawful-at cs classes ns nodes p q ok = subst (λ xs. Well-formed xs ns) (sym p) (subst (λ ys. Well-formed classes ys) (sym q) ok)

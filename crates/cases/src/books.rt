@@ -3,8 +3,9 @@ ghost use mathlib.Core.Path.{_≡_};
 ghost use mathlib.Core.List.{List, [], _∷_};
 ghost use Prim.Native.Nat.{ℕ};
 ghost use Rattle.std.specs.Vec.{made};
+ghost use Rattle.book.specs.Rules.{Well-formed};
 ghost use Rattle.book.specs.Whole.{classes-of, nodes-of, Making};
-ghost use Rattle.book.specs.declared.parts.Formula.the-variants.{AtLeast};
+ghost use Rattle.book.specs.declared.parts.Formula.the-variants.{AtLeast, Exists, Every};
 ghost use Rattle.cases.specs.Book.{example-classes, example-nodes, rule-nodes, one-class, nested-nodes, always, times, in-slots};
 use book::Atom;
 use book::Book;
@@ -20,6 +21,9 @@ use std::alloc::Global;
 pub const OPENING: u32 = 1;
 
 pub const GRANT: u32 = 2;
+
+// The rule is said by this many of the example's nodes.
+const RULE: usize = 3;
 
 fn at_least(first: i32, second: i32, constant: i32) -> Formula
     ensures { λ r. ⌜ r ≡ AtLeast (times first second constant) ⌝ }
@@ -57,6 +61,34 @@ pub fn example_classes() -> [Class; 2]
     [Class { attributes: 1 }; 2]
 }
 
+fn node(scope: [u32; 6], premise: bool, formula: Formula) -> Node
+    ensures { λ r. ⌜ r ≡ record { scope = scope; premise = premise; formula = formula } ⌝ }
+{
+    Node {
+        scope,
+        premise,
+        formula,
+    }
+}
+
+fn exists(class: u32, body: u32) -> Formula
+    ensures { λ r. ⌜ r ≡ Exists class body ⌝ }
+{
+    Formula::Exists {
+        class,
+        body,
+    }
+}
+
+fn every(class: u32, body: u32) -> Formula
+    ensures { λ r. ⌜ r ≡ Every class body ⌝ }
+{
+    Formula::Every {
+        class,
+        body,
+    }
+}
+
 pub fn example_nodes() -> [Node; 6]
     ensures { λ r. ⌜ r ≡ example-nodes ⌝ }
 {
@@ -64,97 +96,60 @@ pub fn example_nodes() -> [Node; 6]
     let one = in_slots(OPENING, 0);
     let none = in_slots(0, 0);
     [
-        Node {
-            scope: both,
-            premise: false,
-            formula: at_least(1, -1, 0),
-        },
-        Node {
-            scope: one,
-            premise: false,
-            formula: Formula::Exists {
-                class: GRANT,
-                body: 1,
-            },
-        },
-        Node {
-            scope: none,
-            premise: true,
-            formula: Formula::Every {
-                class: OPENING,
-                body: 2,
-            },
-        },
-        Node {
-            scope: both,
-            premise: false,
-            formula: at_least(-1, 1, -1),
-        },
-        Node {
-            scope: one,
-            premise: false,
-            formula: Formula::Every {
-                class: GRANT,
-                body: 4,
-            },
-        },
-        Node {
-            scope: none,
-            premise: true,
-            formula: Formula::Exists {
-                class: OPENING,
-                body: 5,
-            },
-        },
+        node(both, false, at_least(1, -1, 0)),
+        node(one, false, exists(GRANT, 1)),
+        node(none, true, every(OPENING, 2)),
+        node(both, false, at_least(-1, 1, -1)),
+        node(one, false, every(GRANT, 4)),
+        node(none, true, exists(OPENING, 5)),
     ]
 }
 
-// The book of these classes and nodes: it keeps every rule, so only want of memory refuses it.
-pub fn example_book(heap: Global) -> Result<Book, AllocError>
-    ensures { λ r. ⌜ made r (λ b. (classes-of b ≡ example-classes) × (nodes-of b ≡ example-nodes)) ⌝ }
+// A book that keeps every rule, so that only want of memory refuses it.
+fn lawful_book(heap: Global, classes: &[Class], nodes: &[Node]) -> Result<Book, AllocError>
+    requires { ⌜ Well-formed (now classes) (now nodes) ⌝ }
+    ensures { λ r. ⌜ made r (λ b. (classes-of b ≡ now (classes .entry)) × (nodes-of b ≡ now (nodes .entry))) ⌝ }
 {
-    let classes = Vec::from_slice(heap, &example_classes())?;
-    let nodes = Vec::from_slice(heap, &example_nodes())?;
-    match Book::new(classes, nodes) {
+    let own_classes = Vec::from_slice(heap, classes)?;
+    let own_nodes = Vec::from_slice(heap, nodes)?;
+    match Book::new(own_classes, own_nodes) {
         Ok(book) => Ok(book),
         Err(_) => unreachable(),
     }
+}
+
+// The rule and the forbidden event.
+pub fn example_book(heap: Global) -> Result<Book, AllocError>
+    ensures { λ r. ⌜ made r (λ b. (classes-of b ≡ example-classes) × (nodes-of b ≡ example-nodes)) ⌝ }
+{
+    let nodes = example_nodes();
+    lawful_book(heap, &example_classes(), &nodes)
 }
 
 // The rule alone, without the forbidden event.
 pub fn rule_book(heap: Global) -> Result<Book, AllocError>
     ensures { λ r. ⌜ made r (λ b. (classes-of b ≡ example-classes) × (nodes-of b ≡ rule-nodes)) ⌝ }
 {
-    let all = example_nodes();
-    let classes = Vec::from_slice(heap, &example_classes())?;
-    let nodes = Vec::from_slice(heap, &all[0..3])?;
-    match Book::new(classes, nodes) {
-        Ok(book) => Ok(book),
-        Err(_) => unreachable(),
-    }
+    let nodes = example_nodes();
+    lawful_book(heap, &example_classes(), &nodes[0..RULE])
+}
+
+fn nested_nodes(scope: [u32; 6]) -> [Node; 3]
+    ensures { λ r. ⌜ r ≡ nested-nodes scope ⌝ }
+{
+    let always = always_true();
+    [
+        node([1, 1, 1, 1, 1, 1], false, always),
+        node(scope, false, exists(1, 1)),
+        node(in_slots(0, 0), true, always),
+    ]
 }
 
 // A book with an "exists" of this scope, over a body that uses all six slots.
 pub fn nested_book(heap: Global, scope: [u32; 6]) -> Result<Result<Book, Cause>, AllocError>
     ensures { λ r. ⌜ made r (λ m. Making one-class (nested-nodes scope) m) ⌝ }
 {
-    let formula = always_true();
-    let body = Node {
-        scope: [1, 1, 1, 1, 1, 1],
-        premise: false,
-        formula,
-    };
-    let exists = Node {
-        scope,
-        premise: false,
-        formula: Formula::Exists { class: 1, body: 1 },
-    };
-    let premise = Node {
-        scope: in_slots(0, 0),
-        premise: true,
-        formula,
-    };
     let classes = Vec::from_slice(heap, &[Class { attributes: 1 }])?;
-    let nodes = Vec::from_slice(heap, &[body, exists, premise])?;
+    let nodes = Vec::from_slice(heap, &nested_nodes(scope))?;
     Ok(Book::new(classes, nodes))
 }

@@ -40,32 +40,22 @@ pub(crate) fn evaluate(
         Formula::And { left, right } => both(book, log, *left, *right, true, slots, budget),
         Formula::Or { left, right } => both(book, log, *left, *right, false, slots, budget),
         Formula::Exists { class, body } => {
-            walk(
-                book,
-                log,
-                Quantifier {
-                    class: *class,
-                    body: *body,
-                    slot,
-                    want: true,
-                },
-                slots,
-                budget,
-            )
+            let q = Quantifier {
+                class: *class,
+                body: *body,
+                slot,
+                want: true,
+            };
+            walk(book, log, q, slots, budget)
         }
         Formula::Every { class, body } => {
-            walk(
-                book,
-                log,
-                Quantifier {
-                    class: *class,
-                    body: *body,
-                    slot,
-                    want: false,
-                },
-                slots,
-                budget,
-            )
+            let q = Quantifier {
+                class: *class,
+                body: *body,
+                slot,
+                want: false,
+            };
+            walk(book, log, q, slots, budget)
         }
     }
 }
