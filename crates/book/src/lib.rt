@@ -6,12 +6,7 @@ mod rules;
 
 pub use made::Book;
 pub use parts::Atom;
-pub use parts::AtomDebug;
 pub use parts::Class;
-pub use parts::ClassDebug;
 pub use parts::Formula;
-pub use parts::FormulaDebug;
 pub use parts::Node;
-pub use parts::NodeDebug;
 pub use parts::Term;
-pub use parts::TermDebug;

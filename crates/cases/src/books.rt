@@ -74,19 +74,13 @@ fn node(scope: [u32; 6], premise: bool, formula: Formula) -> Node
 fn exists(class: u32, body: u32) -> Formula
     ensures { λ r. ⌜ r ≡ Exists class body ⌝ }
 {
-    Formula::Exists {
-        class,
-        body,
-    }
+    Formula::Exists { class, body }
 }
 
 fn every(class: u32, body: u32) -> Formula
     ensures { λ r. ⌜ r ≡ Every class body ⌝ }
 {
-    Formula::Every {
-        class,
-        body,
-    }
+    Formula::Every { class, body }
 }
 
 pub fn example_nodes() -> [Node; 6]

@@ -12,7 +12,6 @@ pub use parts::Answer;
 pub use parts::AnswerDebug;
 pub use parts::AnswerPartialEq;
 pub use parts::Element;
-pub use parts::ElementDebug;
 pub use parts::Verdict;
 pub use parts::VerdictDebug;
 pub use parts::VerdictPartialEq;

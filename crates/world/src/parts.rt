@@ -1,7 +1,7 @@
 // Elements as they are handed in, and what is said of them.
 
 // An element of a world: its class, and one number for each attribute of that class.
-#[derive(Clone, Copy, Debug)]
+#[derive(Clone, Copy)]
 pub struct Element<'a> {
     pub class: u32,
     pub values: &'a [i64],

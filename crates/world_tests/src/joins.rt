@@ -1,0 +1,97 @@
+// And, or: the visits show that the right child is read only where the left one does not decide.
+ghost use mathlib.Core.Path.{_≡_};
+ghost use lib.ListN.{length};
+ghost use Rattle.std.specs.Results.{Cases};
+ghost use Rattle.book.specs.Whole.{nodes-of};
+use crate::shared::*;
+use book::Atom;
+use book::Book;
+use book::Formula;
+use std::alloc::Global;
+use std::test::*;
+
+// The formula is node 5. Its children can be node 2, of class 1, and node 4, of class 2.
+fn joined(heap: Global, formula: Formula) -> Result<Book, Fail>
+    ensures { λ r. ⌜ Cases r (λ b. length (nodes-of b) ≡ 5) (λ _. Unit {0}) ⌝ }
+{
+    let [a, b, c, d] = claims(false, false);
+    made(heap, &[a, b, c, d, premise(formula)])
+}
+
+#[test]
+fn conjunctions(rt: LibcRuntime) -> Result<(), Fail> {
+    let book = joined(rt.alloc(), Formula::And { left: 2, right: 4 })?;
+    let table = [
+        row("both true", &[(1, 1), (2, 1), (2, 1)], yes(3)),
+        row("the left one true", &[(1, 1), (2, -1), (2, -1)], no(5, 2)),
+        row("the right one true", &[(1, -1), (2, 1), (2, 1)], no(5, 1)),
+        row("both false", &[(1, -1), (2, -1), (2, -1)], no(5, 1)),
+        row("no element", &[], yes(0)),
+    ];
+    each_log(rt.alloc(), &book, &table)
+}
+
+#[test]
+fn disjunctions(rt: LibcRuntime) -> Result<(), Fail> {
+    let book = joined(rt.alloc(), Formula::Or { left: 2, right: 4 })?;
+    let table = [
+        row("both true", &[(1, 1), (2, 1), (2, 1)], yes(1)),
+        row("the left one true", &[(1, 1), (2, -1), (2, -1)], yes(1)),
+        row("the right one true", &[(1, -1), (2, 1), (2, 1)], yes(3)),
+        row("both false", &[(1, -1), (2, -1), (2, -1)], no(5, 2)),
+        row("no element", &[], yes(0)),
+    ];
+    each_log(rt.alloc(), &book, &table)
+}
+
+// The left child is the one that is named so, whatever its number.
+#[test]
+fn children_exchanged(rt: LibcRuntime) -> Result<(), Fail> {
+    let conjunction = joined(rt.alloc(), Formula::And { left: 4, right: 2 })?;
+    let disjunction = joined(rt.alloc(), Formula::Or { left: 4, right: 2 })?;
+    let and = [
+        row("both true", &[(1, 1), (2, 1), (2, 1)], yes(3)),
+        row("class 1 true", &[(1, 1), (2, -1), (2, -1)], no(5, 1)),
+        row("class 2 true", &[(1, -1), (2, 1), (2, 1)], no(5, 3)),
+    ];
+    let or = [
+        row("both true", &[(1, 1), (2, 1), (2, 1)], yes(2)),
+        row("class 1 true", &[(1, 1), (2, -1), (2, -1)], yes(2)),
+        row("class 2 true", &[(1, -1), (2, 1), (2, 1)], yes(2)),
+    ];
+    each_log(rt.alloc(), &conjunction, &and).note("and")?;
+    each_log(rt.alloc(), &disjunction, &or).note("or")
+}
+
+// A child that is named twice is read twice.
+#[test]
+fn one_child_twice(rt: LibcRuntime) -> Result<(), Fail> {
+    let conjunction = joined(rt.alloc(), Formula::And { left: 4, right: 4 })?;
+    let disjunction = joined(rt.alloc(), Formula::Or { left: 4, right: 4 })?;
+    let and = [
+        row("true", &[(2, 1), (2, 1)], yes(4)),
+        row("false", &[(2, 1), (2, -1)], no(5, 2)),
+    ];
+    let or = [
+        row("true", &[(2, 1), (2, 1)], yes(2)),
+        row("false", &[(2, 1), (2, -1)], no(5, 4)),
+    ];
+    each_log(rt.alloc(), &conjunction, &and).note("and")?;
+    each_log(rt.alloc(), &disjunction, &or).note("or")
+}
+
+// As many nodes as a book can have, each the left child of the next, and none of the right children is read.
+#[test]
+fn deep_chain(rt: LibcRuntime) -> Result<(), Fail> {
+    let mut nodes = Vec::new(rt.alloc());
+    nodes.push(node(NO_SCOPE, Formula::AtLeast(Atom::new(&[], -1))))?;
+    for k in 1..4095 {
+        nodes.push(node(NO_SCOPE, Formula::And { left: k, right: 1 }))?;
+    }
+    nodes.push(premise(Formula::Or {
+        left: 4095,
+        right: 1,
+    }))?;
+    let book = made(rt.alloc(), nodes.as_slice())?;
+    each_log(rt.alloc(), &book, &[row("no element", &[], no(4096, 0))])
+}

@@ -1,0 +1,171 @@
+// What the tests share: books of two classes, logs in short, and tables of logs with their answers.
+ghost use mathlib.Core.Path.{_≡_};
+ghost use mathlib.Core.Bool.{true, false};
+ghost use mathlib.Core.List.{[], _∷_};
+ghost use lib.IntN.{pos};
+ghost use lib.ListN.{length};
+ghost use Rattle.std.specs.Results.{Cases};
+ghost use Rattle.book.specs.Rules.{node-at, places-of};
+ghost use Rattle.book.specs.Whole.{classes-of, nodes-of};
+ghost use Rattle.book.specs.declared.parts.Formula.the-variants.{AtLeast};
+ghost use Rattle.world.specs.declared.parts.Verdict.the-variants.{Yes, No};
+use book::Atom;
+use book::Book;
+use book::Class;
+use book::Formula;
+use book::Node;
+use book::Term;
+use causes::Cause;
+use causes::CauseDebug;
+use causes::CausePartialEq;
+use std::alloc::AllocError;
+use std::alloc::Global;
+use std::slice::from_ref;
+use std::test::*;
+use world::Answer;
+use world::AnswerDebug;
+use world::AnswerPartialEq;
+use world::Element;
+use world::Verdict;
+use world::world_test;
+
+// Two classes of one attribute each.
+pub const CLASSES: [Class; 2] = [Class { attributes: 1 }, Class { attributes: 1 }];
+
+pub const NO_SCOPE: [u32; 6] = [0, 0, 0, 0, 0, 0];
+
+pub const FIRST: [u32; 6] = [1, 0, 0, 0, 0, 0];
+
+pub const SECOND: [u32; 6] = [2, 0, 0, 0, 0, 0];
+
+pub fn term(coefficient: i32, slot: u32) -> Term
+    ensures { λ r. ⌜ r .coefficient ≡ coefficient ⌝ ∗ ⌜ r .slot ≡ slot ⌝ ∗ ⌜ r .attribute ≡ 0 ⌝ }
+{
+    Term {
+        coefficient,
+        slot,
+        attribute: 0,
+    }
+}
+
+pub fn node(scope: [u32; 6], formula: Formula) -> Node
+    ensures { λ r. ⌜ r .scope ≡ scope ⌝ ∗ ⌜ r .premise ≡ false ⌝ ∗ ⌜ r .formula ≡ formula ⌝ }
+{
+    Node {
+        scope,
+        premise: false,
+        formula,
+    }
+}
+
+pub fn premise(formula: Formula) -> Node
+    ensures { λ r. ⌜ r .scope ≡ 0 ∷ 0 ∷ 0 ∷ 0 ∷ 0 ∷ 0 ∷ [] ⌝ ∗ ⌜ r .premise ≡ true ⌝ ∗ ⌜ r .formula ≡ formula ⌝ }
+{
+    Node {
+        scope: NO_SCOPE,
+        premise: true,
+        formula,
+    }
+}
+
+// True where the element in the first slot has 0 or more.
+pub fn not_negative() -> Formula
+    ensures { λ r. ⌜ r ≡ AtLeast (record { terms = places-of (record { coefficient = pos 1; slot = 0; attribute = 0 } ∷ []); count = 1; constant = pos 0 }) ⌝ }
+{
+    Formula::AtLeast(Atom::new(&[term(1, 0)], 0))
+}
+
+pub fn made(heap: Global, nodes: &[Node]) -> Result<Book, Fail>
+    ensures { λ r. ⌜ Cases r (λ b. (length (classes-of b) ≡ 2) × (nodes-of b ≡ now (nodes .entry))) (λ _. Unit {0}) ⌝ }
+{
+    let classes = Vec::from_slice(heap, &CLASSES)?;
+    let nodes = Vec::from_slice(heap, nodes)?;
+    Ok(Book::new(classes, nodes)?)
+}
+
+// Node 2: every element of class 1 has 0 or more. Node 4: the same of class 2.
+pub fn claims(first: bool, second: bool) -> [Node; 4]
+    ensures { λ r. ⌜ node-at r 2 .premise ≡ first ⌝ ∗ ⌜ node-at r 4 .premise ≡ second ⌝ }
+{
+    [
+        node(FIRST, not_negative()),
+        Node {
+            scope: NO_SCOPE,
+            premise: first,
+            formula: Formula::Every { class: 1, body: 1 },
+        },
+        node(SECOND, not_negative()),
+        Node {
+            scope: NO_SCOPE,
+            premise: second,
+            formula: Formula::Every { class: 2, body: 3 },
+        },
+    ]
+}
+
+// A log in short: the class and the value of each element.
+pub fn elements<'a>(heap: Global, log: &'a [(u32, i64)]) -> Result<Vec<Element<'a>>, AllocError> {
+    let mut all = Vec::new(heap);
+    for (class, value) in log {
+        all.push(Element {
+            class: *class,
+            values: from_ref(value),
+        })?;
+    }
+    Ok(all)
+}
+
+pub fn yes(visits: u32) -> Answer
+    ensures { λ r. ⌜ r .verdict ≡ Yes ⌝ ∗ ⌜ r .visits ≡ visits ⌝ }
+{
+    Answer {
+        verdict: Verdict::Yes,
+        visits,
+    }
+}
+
+pub fn no(premise: u32, visits: u32) -> Answer
+    ensures { λ r. ⌜ r .verdict ≡ No premise ⌝ ∗ ⌜ r .visits ≡ visits ⌝ }
+{
+    Answer {
+        verdict: Verdict::No { premise },
+        visits,
+    }
+}
+
+// A log, and what the test answers.
+#[derive(Drop)]
+pub struct Trial {
+    pub name: &'static str,
+    pub log: &'static [(u32, i64)],
+    pub expected: Answer,
+}
+
+pub fn row(name: &'static str, log: &'static [(u32, i64)], expected: Answer) -> Trial
+    ensures { λ r. ⌜ now (r .log) ≡ now (log .entry) ⌝ ∗ ⌜ r .expected ≡ expected ⌝ }
+{
+    Trial {
+        name,
+        log,
+        expected,
+    }
+}
+
+// Answered with as many visits as it takes and with the largest budget, and refused with one visit less.
+pub fn exactly(book: &Book, log: &[Element], expected: Answer) -> Result<(), Fail> {
+    let visits = expected.visits;
+    check_eq(world_test(book, log, visits), Ok(expected)).note("just enough")?;
+    check_eq(world_test(book, log, u32::MAX), Ok(expected)).note("the largest budget")?;
+    if visits == 0 {
+        return Ok(());
+    }
+    check_eq(world_test(book, log, visits - 1), Err(Cause::OverBudget)).note("one less")
+}
+
+pub fn each_log(heap: Global, book: &Book, table: &[Trial]) -> Result<(), Fail> {
+    for trial in table {
+        let log = elements(heap, trial.log)?;
+        exactly(book, log.as_slice(), trial.expected).note(trial.name)?;
+    }
+    Ok(())
+}
