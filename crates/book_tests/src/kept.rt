@@ -7,7 +7,6 @@ use crate::shared::*;
 use book::Atom;
 use book::Book;
 use book::Formula;
-use book::Term;
 use causes::CauseDebug;
 use std::test::*;
 
@@ -56,54 +55,18 @@ fn nodes(rt: LibcRuntime) -> Result<(), Fail> {
     check_eq(last.premise, true).note("the last mark")
 }
 
+// Places past the last term hold 0, and terms past the eighth are counted only.
 #[test]
-fn formulas(rt: LibcRuntime) -> Result<(), Fail> {
-    let book = sample(&rt)?;
-    let [first, second, _] = book.nodes() else {
-        return Err(Fail::new("not three nodes"));
-    };
-    let Formula::Equal(atom) = first.formula else {
-        return Err(Fail::new("the first is another formula"));
-    };
-    let Formula::Every { class, body } = second.formula else {
-        return Err(Fail::new("the second is another formula"));
-    };
-    check_eq(atom.count, 1).note("the count of terms")?;
-    check_eq(atom.constant, 9).note("the constant")?;
-    same(&atom.terms[0], &term(-5, 0, 7)).note("the term")?;
-    check_eq(class, 2).note("the class")?;
-    check_eq(body, 1).note("the body")
-}
-
-fn same(a: &Term, b: &Term) -> Result<(), Fail> {
-    check_eq(a.coefficient, b.coefficient).note("coefficient")?;
-    check_eq(a.slot, b.slot).note("slot")?;
-    check_eq(a.attribute, b.attribute).note("attribute")
-}
-
-#[test]
-fn atoms(rt: LibcRuntime) -> Result<(), Fail> {
-    for (count, constant) in [
-        (0usize, 1),
-        (1, -1),
-        (7, 5),
-        (8, 2_147_483_647),
-        (9, -2_147_483_648),
-    ] {
-        let mut terms = Vec::new(rt.alloc());
-        for i in 0..count as u32 {
-            terms.push(term(-7, i, 10))?;
-        }
-        let atom = Atom::new(terms.as_slice(), constant);
-        check_eq(atom.count, count).note(format_args!("{count} terms"))?;
-        check_eq(atom.constant, constant).note(format_args!("{count} terms"))?;
-        let blank = several(rt.alloc(), term(0, 0, 0), 8)?;
-        let given = terms.iter().chain(blank.iter());
-        for (place, expected) in atom.terms.iter().zip(given) {
-            same(place, expected).note(format_args!("of {count} terms"))?;
-        }
-    }
-    Ok(())
+fn atoms() -> Result<(), Fail> {
+    let t = term(-7, 5, 10);
+    let three = Atom::new(&[t, t, t], -1);
+    let nine = Atom::new(&[t, t, t, t, t, t, t, t, t], -2_147_483_648);
+    check(three.count == 3 && three.constant == -1).note("three terms")?;
+    check(three.terms[2].coefficient == -7 && three.terms[3].coefficient == 0).note(
+        "their places",
+    )?;
+    check(nine.count == 9 && nine.constant == -2_147_483_648).note("nine terms")?;
+    check(nine.terms[7].slot == 5 && nine.terms[7].attribute == 10).note("the last place")
 }
 
 #[test]

@@ -13,6 +13,10 @@ use Rattle.world.specs.Truth.{Env, nothing, reading}
 use Rattle.world.specs.Inner.{values-at, env-of}
 use Rattle.world.specs.declared.parts.Element.{Element as Given}
 
+-- what stands where no element is
+abbrev pub no-given : Given
+no-given = record { class = 0; values = record { ptr = (0, 0); name = 0; now = [] } }
+
 pub length-world : (log : List Given) → length (world-of log) ≡ length log
 length-world log = length-map log element-of
 

@@ -19,9 +19,11 @@ fn value(log: &[Element], number: u32, attribute: u32) -> i64
     if k == 0 || k > log.len() {
         return 0;
     }
-    match log[k - 1].values.get(attribute as usize) {
-        Some(v) => *v,
-        None => 0,
+    let a = attribute as usize;
+    if a < log[k - 1].values.len() {
+        log[k - 1].values[a]
+    } else {
+        0
     }
 }
 

@@ -142,23 +142,16 @@ fn the_first_bad_element(rt: LibcRuntime) -> Result<(), Fail> {
 #[test]
 fn counts_of_elements(rt: LibcRuntime) -> Result<(), Fail> {
     let book = lenient(rt.alloc())?;
-    let table = [
-        (FINE, 254, FINE, None),
-        (FINE, 254, BAD, Some(256)),
-        (BAD, 254, BAD, Some(1)),
-        (FINE, 255, FINE, Some(0)),
-        (FINE, 255, BAD, Some(0)),
-        (BAD, 255, FINE, Some(0)),
-        (FINE, 1000, FINE, Some(0)),
-    ];
-    for (first, between, last, bad) in table {
-        let mut log = Vec::new(rt.alloc());
-        log.push(first)?;
-        for _i in 0..between {
-            log.push(FINE)?;
-        }
-        log.push(last)?;
-        refused(&book, log.as_slice(), bad).note(format_args!("{between} between {bad:?}"))?;
-    }
-    Ok(())
+    let mut most = [FINE; 256];
+    let mut more = [FINE; 257];
+    refused(&book, &most, None).note("256")?;
+    refused(&book, &more, Some(0)).note("257")?;
+    most[255] = BAD;
+    more[256] = BAD;
+    refused(&book, &most, Some(256)).note("256, the last one bad")?;
+    refused(&book, &more, Some(0)).note("257, the last one bad")?;
+    most[0] = BAD;
+    more[0] = BAD;
+    refused(&book, &most, Some(1)).note("256, the first one bad")?;
+    refused(&book, &more, Some(0)).note("257, the first one bad")
 }

@@ -17,70 +17,65 @@ pub fn example(heap: Global) -> Result<Book, Fail>
     Ok(example_book(heap)?)
 }
 
+const SMALL_LOGS_ROWS: &[Row] = &[
+    ("no element", &[], 6, 0),
+    ("an opening", &[(1, 5)], 3, 1),
+    ("a grant", &[(2, 5)], 6, 0),
+    ("three grants", &[(2, 5), (2, 6), (2, 5)], 6, 0),
+    ("both at one time", &[(1, 5), (2, 5)], 6, 4),
+    ("the grant listed first", &[(2, 5), (1, 5)], 6, 4),
+    ("the grant a step before", &[(1, 5), (2, 4)], 6, 4),
+    ("the grant a step after", &[(1, 5), (2, 6)], 3, 2),
+];
+
 #[test]
 fn small_logs(rt: LibcRuntime) -> Result<(), Fail> {
-    let table = [
-        row("no element", &[], no(6, 0)),
-        row("an opening", &[(1, 5)], no(3, 1)),
-        row("a grant", &[(2, 5)], no(6, 0)),
-        row("three grants", &[(2, 5), (2, 6), (2, 5)], no(6, 0)),
-        row("both at one time", &[(1, 5), (2, 5)], no(6, 4)),
-        row("the grant listed first", &[(2, 5), (1, 5)], no(6, 4)),
-        row("the grant a step before", &[(1, 5), (2, 4)], no(6, 4)),
-        row("the grant a step after", &[(1, 5), (2, 6)], no(3, 2)),
-    ];
-    each_log(rt.alloc(), &example(rt.alloc())?, &table)
+    each_log(rt.alloc(), &example(rt.alloc())?, SMALL_LOGS_ROWS)
 }
+
+const ORDERS_ROWS: &[Row] = &[
+    ("the early grant first", &[(1, 5), (2, 3), (2, 7)], 6, 4),
+    ("the late grant first", &[(1, 5), (2, 7), (2, 3)], 6, 6),
+    ("the early opening first", &[(1, 1), (1, 9), (2, 5)], 3, 2),
+    ("the late opening first", &[(1, 9), (1, 1), (2, 5)], 3, 4),
+    ("both openings late", &[(1, 9), (1, 8), (2, 5)], 6, 8),
+];
 
 // Two openings, or two grants, in either order: the order of the list decides how many are visited.
 #[test]
 fn orders(rt: LibcRuntime) -> Result<(), Fail> {
-    let table = [
-        row("the early grant first", &[(1, 5), (2, 3), (2, 7)], no(6, 4)),
-        row("the late grant first", &[(1, 5), (2, 7), (2, 3)], no(6, 6)),
-        row(
-            "the early opening first",
-            &[(1, 1), (1, 9), (2, 5)],
-            no(3, 2),
-        ),
-        row(
-            "the late opening first",
-            &[(1, 9), (1, 1), (2, 5)],
-            no(3, 4),
-        ),
-        row("both openings late", &[(1, 9), (1, 8), (2, 5)], no(6, 8)),
-    ];
-    each_log(rt.alloc(), &example(rt.alloc())?, &table)
+    each_log(rt.alloc(), &example(rt.alloc())?, ORDERS_ROWS)
 }
+
+const TWO_OF_EACH_ROWS: &[Row] = &[
+    (
+        "the early grant first",
+        &[(2, 5), (1, 9), (1, 8), (2, 9)],
+        6,
+        8,
+    ),
+    (
+        "the late grant first",
+        &[(2, 9), (1, 9), (1, 8), (2, 5)],
+        6,
+        10,
+    ),
+    ("the grants last", &[(1, 9), (1, 8), (2, 9), (2, 5)], 6, 10),
+    (
+        "the openings last",
+        &[(2, 9), (2, 5), (1, 9), (1, 8)],
+        6,
+        10,
+    ),
+    (
+        "the openings exchanged",
+        &[(1, 8), (1, 9), (2, 9), (2, 5)],
+        6,
+        10,
+    ),
+];
 
 #[test]
 fn two_of_each(rt: LibcRuntime) -> Result<(), Fail> {
-    let table = [
-        row(
-            "the early grant first",
-            &[(2, 5), (1, 9), (1, 8), (2, 9)],
-            no(6, 8),
-        ),
-        row(
-            "the late grant first",
-            &[(2, 9), (1, 9), (1, 8), (2, 5)],
-            no(6, 10),
-        ),
-        row(
-            "the grants last",
-            &[(1, 9), (1, 8), (2, 9), (2, 5)],
-            no(6, 10),
-        ),
-        row(
-            "the openings last",
-            &[(2, 9), (2, 5), (1, 9), (1, 8)],
-            no(6, 10),
-        ),
-        row(
-            "the openings exchanged",
-            &[(1, 8), (1, 9), (2, 9), (2, 5)],
-            no(6, 10),
-        ),
-    ];
-    each_log(rt.alloc(), &example(rt.alloc())?, &table)
+    each_log(rt.alloc(), &example(rt.alloc())?, TWO_OF_EACH_ROWS)
 }

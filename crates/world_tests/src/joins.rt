@@ -18,66 +18,72 @@ fn joined(heap: Global, formula: Formula) -> Result<Book, Fail>
     made(heap, &[a, b, c, d, premise(formula)])
 }
 
+const CONJUNCTIONS_ROWS: &[Row] = &[
+    ("both true", &[(1, 1), (2, 1), (2, 1)], 0, 3),
+    ("the left one true", &[(1, 1), (2, -1), (2, -1)], 5, 2),
+    ("the right one true", &[(1, -1), (2, 1), (2, 1)], 5, 1),
+    ("both false", &[(1, -1), (2, -1), (2, -1)], 5, 1),
+    ("no element", &[], 0, 0),
+];
+
 #[test]
 fn conjunctions(rt: LibcRuntime) -> Result<(), Fail> {
     let book = joined(rt.alloc(), Formula::And { left: 2, right: 4 })?;
-    let table = [
-        row("both true", &[(1, 1), (2, 1), (2, 1)], yes(3)),
-        row("the left one true", &[(1, 1), (2, -1), (2, -1)], no(5, 2)),
-        row("the right one true", &[(1, -1), (2, 1), (2, 1)], no(5, 1)),
-        row("both false", &[(1, -1), (2, -1), (2, -1)], no(5, 1)),
-        row("no element", &[], yes(0)),
-    ];
-    each_log(rt.alloc(), &book, &table)
+    each_log(rt.alloc(), &book, CONJUNCTIONS_ROWS)
 }
+
+const DISJUNCTIONS_ROWS: &[Row] = &[
+    ("both true", &[(1, 1), (2, 1), (2, 1)], 0, 1),
+    ("the left one true", &[(1, 1), (2, -1), (2, -1)], 0, 1),
+    ("the right one true", &[(1, -1), (2, 1), (2, 1)], 0, 3),
+    ("both false", &[(1, -1), (2, -1), (2, -1)], 5, 2),
+    ("no element", &[], 0, 0),
+];
 
 #[test]
 fn disjunctions(rt: LibcRuntime) -> Result<(), Fail> {
     let book = joined(rt.alloc(), Formula::Or { left: 2, right: 4 })?;
-    let table = [
-        row("both true", &[(1, 1), (2, 1), (2, 1)], yes(1)),
-        row("the left one true", &[(1, 1), (2, -1), (2, -1)], yes(1)),
-        row("the right one true", &[(1, -1), (2, 1), (2, 1)], yes(3)),
-        row("both false", &[(1, -1), (2, -1), (2, -1)], no(5, 2)),
-        row("no element", &[], yes(0)),
-    ];
-    each_log(rt.alloc(), &book, &table)
+    each_log(rt.alloc(), &book, DISJUNCTIONS_ROWS)
 }
+
+const CHILDREN_EXCHANGED_AND_ROWS: &[Row] = &[
+    ("both true", &[(1, 1), (2, 1), (2, 1)], 0, 3),
+    ("class 1 true", &[(1, 1), (2, -1), (2, -1)], 5, 1),
+    ("class 2 true", &[(1, -1), (2, 1), (2, 1)], 5, 3),
+];
+
+const CHILDREN_EXCHANGED_OR_ROWS: &[Row] = &[
+    ("both true", &[(1, 1), (2, 1), (2, 1)], 0, 2),
+    ("class 1 true", &[(1, 1), (2, -1), (2, -1)], 0, 2),
+    ("class 2 true", &[(1, -1), (2, 1), (2, 1)], 0, 2),
+];
 
 // The left child is the one that is named so, whatever its number.
 #[test]
 fn children_exchanged(rt: LibcRuntime) -> Result<(), Fail> {
     let conjunction = joined(rt.alloc(), Formula::And { left: 4, right: 2 })?;
     let disjunction = joined(rt.alloc(), Formula::Or { left: 4, right: 2 })?;
-    let and = [
-        row("both true", &[(1, 1), (2, 1), (2, 1)], yes(3)),
-        row("class 1 true", &[(1, 1), (2, -1), (2, -1)], no(5, 1)),
-        row("class 2 true", &[(1, -1), (2, 1), (2, 1)], no(5, 3)),
-    ];
-    let or = [
-        row("both true", &[(1, 1), (2, 1), (2, 1)], yes(2)),
-        row("class 1 true", &[(1, 1), (2, -1), (2, -1)], yes(2)),
-        row("class 2 true", &[(1, -1), (2, 1), (2, 1)], yes(2)),
-    ];
-    each_log(rt.alloc(), &conjunction, &and).note("and")?;
-    each_log(rt.alloc(), &disjunction, &or).note("or")
+    each_log(rt.alloc(), &conjunction, CHILDREN_EXCHANGED_AND_ROWS).note("and")?;
+    each_log(rt.alloc(), &disjunction, CHILDREN_EXCHANGED_OR_ROWS).note("or")
 }
+
+const ONE_CHILD_TWICE_AND_ROWS: &[Row] = &[
+    ("true", &[(2, 1), (2, 1)], 0, 4),
+    ("false", &[(2, 1), (2, -1)], 5, 2),
+];
+
+const ONE_CHILD_TWICE_OR_ROWS: &[Row] = &[
+    ("true", &[(2, 1), (2, 1)], 0, 2),
+    ("false", &[(2, 1), (2, -1)], 5, 4),
+];
 
 // A child that is named twice is read twice.
 #[test]
 fn one_child_twice(rt: LibcRuntime) -> Result<(), Fail> {
     let conjunction = joined(rt.alloc(), Formula::And { left: 4, right: 4 })?;
     let disjunction = joined(rt.alloc(), Formula::Or { left: 4, right: 4 })?;
-    let and = [
-        row("true", &[(2, 1), (2, 1)], yes(4)),
-        row("false", &[(2, 1), (2, -1)], no(5, 2)),
-    ];
-    let or = [
-        row("true", &[(2, 1), (2, 1)], yes(2)),
-        row("false", &[(2, 1), (2, -1)], no(5, 4)),
-    ];
-    each_log(rt.alloc(), &conjunction, &and).note("and")?;
-    each_log(rt.alloc(), &disjunction, &or).note("or")
+    each_log(rt.alloc(), &conjunction, ONE_CHILD_TWICE_AND_ROWS).note("and")?;
+    each_log(rt.alloc(), &disjunction, ONE_CHILD_TWICE_OR_ROWS).note("or")
 }
 
 // As many nodes as a book can have, each the left child of the next, and none of the right children is read.
@@ -93,5 +99,5 @@ fn deep_chain(rt: LibcRuntime) -> Result<(), Fail> {
         right: 1,
     }))?;
     let book = made(rt.alloc(), nodes.as_slice())?;
-    each_log(rt.alloc(), &book, &[row("no element", &[], no(4096, 0))])
+    each_log(rt.alloc(), &book, &[("no element", &[], 4096, 0)])
 }

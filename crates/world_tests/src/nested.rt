@@ -38,6 +38,25 @@ fn every_pair(rt: LibcRuntime) -> Result<(), Fail> {
     Ok(())
 }
 
+const SOME_ABOVE_ALL_ROWS: &[Row] = &[
+    ("the first", &[(1, 9), (1, 1), (2, 3), (2, 9)], 0, 3),
+    ("the last", &[(1, 3), (1, 9), (2, 3), (2, 9)], 0, 6),
+    (
+        "the last, told at once",
+        &[(1, 1), (1, 9), (2, 3), (2, 9)],
+        0,
+        5,
+    ),
+    ("none", &[(1, 3), (1, 4), (2, 3), (2, 9)], 3, 6),
+    (
+        "none, told at once",
+        &[(1, 1), (1, 2), (2, 3), (2, 9)],
+        3,
+        4,
+    ),
+    ("nothing to be above", &[(1, 1), (1, 2)], 0, 1),
+];
+
 // Some element of class 1 is at least as large as every element of class 2.
 #[test]
 fn some_above_all(rt: LibcRuntime) -> Result<(), Fail> {
@@ -50,23 +69,7 @@ fn some_above_all(rt: LibcRuntime) -> Result<(), Fail> {
         premise(Formula::Exists { class: 1, body: 2 }),
     ];
     let book = made(rt.alloc(), &nodes)?;
-    let table = [
-        row("the first", &[(1, 9), (1, 1), (2, 3), (2, 9)], yes(3)),
-        row("the last", &[(1, 3), (1, 9), (2, 3), (2, 9)], yes(6)),
-        row(
-            "the last, told at once",
-            &[(1, 1), (1, 9), (2, 3), (2, 9)],
-            yes(5),
-        ),
-        row("none", &[(1, 3), (1, 4), (2, 3), (2, 9)], no(3, 6)),
-        row(
-            "none, told at once",
-            &[(1, 1), (1, 2), (2, 3), (2, 9)],
-            no(3, 4),
-        ),
-        row("nothing to be above", &[(1, 1), (1, 2)], yes(1)),
-    ];
-    each_log(rt.alloc(), &book, &table)
+    each_log(rt.alloc(), &book, SOME_ABOVE_ALL_ROWS)
 }
 
 // Six quantifiers, which read the digits of a number in base 2: is there a way to write this number?

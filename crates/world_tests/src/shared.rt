@@ -133,23 +133,8 @@ pub fn no(premise: u32, visits: u32) -> Answer
     }
 }
 
-// A log, and what the test answers.
-#[derive(Drop)]
-pub struct Trial {
-    pub name: &'static str,
-    pub log: &'static [(u32, i64)],
-    pub expected: Answer,
-}
-
-pub fn row(name: &'static str, log: &'static [(u32, i64)], expected: Answer) -> Trial
-    ensures { λ r. ⌜ now (r .log) ≡ now (log .entry) ⌝ ∗ ⌜ r .expected ≡ expected ⌝ }
-{
-    Trial {
-        name,
-        log,
-        expected,
-    }
-}
+// A name, a log in short, and what the test answers: the premise that a no names, or 0 for a yes, and the visits.
+pub type Row = (&'static str, &'static [(u32, i64)], u32, u32);
 
 // Answered with as many visits as it takes and with the largest budget, and refused with one visit less.
 pub fn exactly(book: &Book, log: &[Element], expected: Answer) -> Result<(), Fail> {
@@ -162,10 +147,15 @@ pub fn exactly(book: &Book, log: &[Element], expected: Answer) -> Result<(), Fai
     check_eq(world_test(book, log, visits - 1), Err(Cause::OverBudget)).note("one less")
 }
 
-pub fn each_log(heap: Global, book: &Book, table: &[Trial]) -> Result<(), Fail> {
-    for trial in table {
-        let log = elements(heap, trial.log)?;
-        exactly(book, log.as_slice(), trial.expected).note(trial.name)?;
+pub fn each_log(heap: Global, book: &Book, table: &[Row]) -> Result<(), Fail> {
+    for (name, short, premise, visits) in table {
+        let log = elements(heap, short)?;
+        let expected = if *premise == 0 {
+            yes(*visits)
+        } else {
+            no(*premise, *visits)
+        };
+        exactly(book, log.as_slice(), expected).note(*name)?;
     }
     Ok(())
 }

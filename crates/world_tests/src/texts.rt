@@ -1,12 +1,10 @@
 // Answers and refusals, by number and as text.
-use crate::example::example;
 use crate::shared::*;
 use causes::Cause;
 use causes::CauseDisplay;
 use std::test::*;
 use world::AnswerDisplay;
 use world::VerdictDisplay;
-use world::world_test;
 
 #[test]
 fn verdicts(rt: LibcRuntime) -> Result<(), Fail> {
@@ -19,7 +17,6 @@ fn verdicts(rt: LibcRuntime) -> Result<(), Fail> {
         let verdict = answer.verdict;
         check_eq(verdict.number(), number).note(text)?;
         check_eq(verdict.to_string(rt.alloc())?, text)?;
-        check_eq(format!(rt.alloc(), "{verdict}")?, text)?;
     }
     Ok(())
 }
@@ -35,7 +32,6 @@ fn answers(rt: LibcRuntime) -> Result<(), Fail> {
     ];
     for (answer, text) in table {
         check_eq(answer.to_string(rt.alloc())?, text)?;
-        check_eq(format!(rt.alloc(), "{answer}")?, text)?;
     }
     Ok(())
 }
@@ -72,34 +68,6 @@ fn refusals(rt: LibcRuntime) -> Result<(), Fail> {
         check_eq(cause.number(), number).note(text)?;
         check_eq(cause.detail(), detail).note(text)?;
         check_eq(cause.to_string(rt.alloc())?, text)?;
-        check_eq(format!(rt.alloc(), "{cause}")?, text)?;
-    }
-    Ok(())
-}
-
-#[test]
-fn of_the_example(rt: LibcRuntime) -> Result<(), Fail> {
-    let book = example(rt.alloc())?;
-    let table = [
-        ([(1, 5), (2, 5)], 4, "no, premise 6 is false, visits 4"),
-        (
-            [(1, 5), (2, 5)],
-            3,
-            "refused by 16, detail 0: more visits than the budget",
-        ),
-        (
-            [(1, 5), (3, 5)],
-            4,
-            "refused by 15, detail 2: no world for this book",
-        ),
-    ];
-    for (short, budget, text) in table {
-        let log = elements(rt.alloc(), &short)?;
-        let found = match world_test(&book, log.as_slice(), budget) {
-            Ok(answer) => answer.to_string(rt.alloc())?,
-            Err(cause) => cause.to_string(rt.alloc())?,
-        };
-        check_eq(found, text)?;
     }
     Ok(())
 }
