@@ -108,7 +108,6 @@ fn sizes_of_values(rt: LibcRuntime) -> Result<(), Fail> {
         (i64::MIN, false),
     ];
     for (v, fits) in table {
-        each_place(&book, 1, &[v], fits).note(format_args!("value {v}"))?;
         each_place(&book, 2, &[v, 0, 0], fits).note(format_args!("first value {v}"))?;
         each_place(&book, 2, &[0, 0, v], fits).note(format_args!("last value {v}"))?;
     }

@@ -1,20 +1,33 @@
-// The example book: openings are class 1, grants are class 2, and each has its time.
+// The example book, written down once more: openings are class 1, grants are class 2, and each has its time.
 //
 // Premise 3: every opening has a grant at its time or before. Premise 6: some opening comes before every grant.
 ghost use mathlib.Core.Path.{_≡_};
+ghost use lib.ListN.{length};
 ghost use Rattle.std.specs.Results.{Cases};
 ghost use Rattle.book.specs.Whole.{nodes-of};
-ghost use Rattle.cases.specs.Book.{example-nodes};
 use crate::shared::*;
+use book::Atom;
 use book::Book;
-use cases::example_book;
+use book::Formula;
 use std::alloc::Global;
 use std::test::*;
 
+const BOTH: [u32; 6] = [1, 2, 0, 0, 0, 0];
+
 pub fn example(heap: Global) -> Result<Book, Fail>
-    ensures { λ r. ⌜ Cases r (λ b. nodes-of b ≡ example-nodes) (λ _. Unit {0}) ⌝ }
+    ensures { λ r. ⌜ Cases r (λ b. length (nodes-of b) ≡ 6) (λ _. Unit {0}) ⌝ }
 {
-    Ok(example_book(heap)?)
+    let not_later = Atom::new(&[term(1, 0), term(-1, 1)], 0);
+    let later = Atom::new(&[term(-1, 0), term(1, 1)], -1);
+    let nodes = [
+        node(BOTH, Formula::AtLeast(not_later)),
+        node(FIRST, Formula::Exists { class: 2, body: 1 }),
+        premise(Formula::Every { class: 1, body: 2 }),
+        node(BOTH, Formula::AtLeast(later)),
+        node(FIRST, Formula::Every { class: 2, body: 4 }),
+        premise(Formula::Exists { class: 1, body: 5 }),
+    ];
+    made(heap, &nodes)
 }
 
 const SMALL_LOGS_ROWS: &[Row] = &[
