@@ -1,8 +1,9 @@
 // A made book: one that keeps every rule, and stays so.
 ghost use mathlib.Core.Path.{_≡_};
-ghost use mathlib.Core.Bool.{true};
+ghost use mathlib.Core.Bool.{true, false};
 ghost use lib.ListN.{length};
 ghost use Rattle.std.specs.Of.Vec.{vec-items};
+ghost use Rattle.std.specs.Options.{Cases as BySome};
 ghost use Rattle.std.specs.Results.{Cases};
 ghost use Rattle.book.specs.Lowest.{Holds-to};
 ghost use Rattle.book.specs.Rules.{is-class, attributes-of, heads-ok, node-ok, Well-formed, Refused};
@@ -36,17 +37,16 @@ impl Book {
         self.classes.as_slice()
     }
 
-    pub fn has_class(&self, class: u32) -> bool
-        ensures { λ r. ⌜ r ≡ is-class (vec-items (now (self .entry) .classes)) class ⌝ }
+    // How many attributes a class of the book has.
+    pub fn attributes(&self, class: u32) -> Option<u32>
+        ensures { λ r. ⌜ BySome r (is-class (vec-items (now (self .entry) .classes)) class ≡ false) (λ k. (is-class (vec-items (now (self .entry) .classes)) class ≡ true) × (k ≡ attributes-of (vec-items (now (self .entry) .classes)) class)) ⌝ }
     {
-        known(self.classes.as_slice(), class)
-    }
-
-    // How many attributes a class has; 0 where there is no such class.
-    pub fn attributes(&self, class: u32) -> u32
-        ensures { λ r. ⌜ r ≡ attributes-of (vec-items (now (self .entry) .classes)) class ⌝ }
-    {
-        attributes(self.classes.as_slice(), class)
+        let classes = self.classes.as_slice();
+        if known(classes, class) {
+            Some(attributes(classes, class))
+        } else {
+            None
+        }
     }
 
     pub fn nodes(&self) -> &[Node]

@@ -1,7 +1,4 @@
 // Books with two faults: which of them is named.
-ghost use mathlib.Core.Path.{_≡_};
-ghost use mathlib.Core.Bool.{false};
-ghost use Rattle.book.specs.declared.parts.Formula.the-variants.{And};
 use crate::shared::*;
 use book::Class;
 use book::Formula;
@@ -11,9 +8,7 @@ use std::test::*;
 const SCOPE: [u32; 6] = [1, 0, 0, 0, 0, 0];
 
 // Its children are 0, which no node may name.
-fn bad() -> Node
-    ensures { λ r. ⌜ r .formula ≡ And 0 0 ⌝ ∗ ⌜ r .premise ≡ false ⌝ }
-{
+fn bad() -> Node {
     node(NO_SCOPE, Formula::And { left: 0, right: 0 })
 }
 

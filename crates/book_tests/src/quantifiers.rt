@@ -1,5 +1,4 @@
 // Exists, every: a lower node whose scope adds the class in the first unused slot.
-ghost use mathlib.Core.Path.{_≡_};
 use crate::shared::*;
 use book::Formula;
 use book::Node;
@@ -37,9 +36,7 @@ struct Case {
     fits: bool,
 }
 
-fn row(name: &'static str, scope: [u32; 6], class: u32, body: u32, fits: bool) -> Case
-    ensures { λ r. ⌜ r .scope ≡ scope ⌝ ∗ ⌜ r .class ≡ class ⌝ ∗ ⌜ r .body ≡ body ⌝ ∗ ⌜ r .fits ≡ fits ⌝ }
-{
+fn row(name: &'static str, scope: [u32; 6], class: u32, body: u32, fits: bool) -> Case {
     Case {
         name,
         scope,

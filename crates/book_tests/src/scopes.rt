@@ -1,5 +1,4 @@
 // Scopes: used slots first, each with one of the two classes.
-ghost use mathlib.Core.Path.{_≡_};
 use crate::shared::*;
 use std::test::*;
 
@@ -10,9 +9,7 @@ struct Case {
     fits: bool,
 }
 
-fn row(name: &'static str, slots: [u32; 6], fits: bool) -> Case
-    ensures { λ r. ⌜ r .slots ≡ slots ⌝ ∗ ⌜ r .fits ≡ fits ⌝ }
-{
+fn row(name: &'static str, slots: [u32; 6], fits: bool) -> Case {
     Case { name, slots, fits }
 }
 

@@ -1,16 +1,6 @@
 // What the tests share: two classes, nodes of one line, and the answer to a book.
-ghost use mathlib.Core.Path.{_≡_};
-ghost use mathlib.Core.Bool.{true, false};
-ghost use mathlib.Core.List.{[]};
 ghost use Prim.Native.Nat.{_≤_};
-ghost use lib.IntN.{pos};
-ghost use lib.ListN.{length, replicate};
-ghost use Rattle.std.specs.Of.Vec.{vec-items};
-ghost use Rattle.std.specs.Options.{Cases as BySome};
-ghost use Rattle.std.specs.Results.{Cases};
-ghost use Rattle.std.specs.Vec.{made};
-ghost use Rattle.book.specs.Rules.{places-of, Well-formed, Fault};
-ghost use Rattle.book.specs.declared.parts.Formula.the-variants.{AtLeast};
+ghost use lib.ListN.{length};
 use book::Atom;
 use book::Book;
 use book::Class;
@@ -25,9 +15,7 @@ pub const CLASSES: [Class; 2] = [Class { attributes: 3 }, Class { attributes: 8 
 
 pub const NO_SCOPE: [u32; 6] = [0, 0, 0, 0, 0, 0];
 
-pub fn term(coefficient: i32, slot: u32, attribute: u32) -> Term
-    ensures { λ r. ⌜ r .coefficient ≡ coefficient ⌝ ∗ ⌜ r .slot ≡ slot ⌝ ∗ ⌜ r .attribute ≡ attribute ⌝ }
-{
+pub fn term(coefficient: i32, slot: u32, attribute: u32) -> Term {
     Term {
         coefficient,
         slot,
@@ -35,9 +23,7 @@ pub fn term(coefficient: i32, slot: u32, attribute: u32) -> Term
     }
 }
 
-pub fn node(scope: [u32; 6], formula: Formula) -> Node
-    ensures { λ r. ⌜ r .scope ≡ scope ⌝ ∗ ⌜ r .premise ≡ false ⌝ ∗ ⌜ r .formula ≡ formula ⌝ }
-{
+pub fn node(scope: [u32; 6], formula: Formula) -> Node {
     Node {
         scope,
         premise: false,
@@ -46,16 +32,12 @@ pub fn node(scope: [u32; 6], formula: Formula) -> Node
 }
 
 // A node that keeps the rules wherever its scope does.
-pub fn plain(scope: [u32; 6]) -> Node
-    ensures { λ r. ⌜ r .scope ≡ scope ⌝ ∗ ⌜ r .premise ≡ false ⌝ ∗ ⌜ r .formula ≡ AtLeast (record { terms = places-of []; count = 0; constant = pos 0 }) ⌝ }
-{
+pub fn plain(scope: [u32; 6]) -> Node {
     node(scope, Formula::AtLeast(Atom::new(&[], 0)))
 }
 
 // The same as a premise.
-pub fn premise(scope: [u32; 6]) -> Node
-    ensures { λ r. ⌜ r .scope ≡ scope ⌝ ∗ ⌜ r .premise ≡ true ⌝ ∗ ⌜ r .formula ≡ AtLeast (record { terms = places-of []; count = 0; constant = pos 0 }) ⌝ }
-{
+pub fn premise(scope: [u32; 6]) -> Node {
     let Node { formula, .. } = plain(scope);
     Node {
         scope,
@@ -64,9 +46,7 @@ pub fn premise(scope: [u32; 6]) -> Node
     }
 }
 
-pub fn several<T: Copy + Drop>(heap: Global, x: T, count: usize) -> Result<Vec<T>, AllocError>
-    ensures { λ r. ⌜ made r (λ v. vec-items v ≡ replicate count x) ⌝ }
-{
+pub fn several<T: Copy + Drop>(heap: Global, x: T, count: usize) -> Result<Vec<T>, AllocError> {
     let mut v = Vec::new(heap);
     for _i in 0..count {
         v.push(x)?;
@@ -75,9 +55,7 @@ pub fn several<T: Copy + Drop>(heap: Global, x: T, count: usize) -> Result<Vec<T
 }
 
 // The detail of the refusal, or None where the book is made.
-pub fn fault(heap: Global, classes: &[Class], nodes: &[Node]) -> Result<Option<u32>, Fail>
-    ensures { λ r. ⌜ Cases r (λ o. BySome o (Well-formed (now (classes .entry)) (now (nodes .entry))) (λ d. Fault (now (classes .entry)) (now (nodes .entry)) d)) (λ _. Unit {0}) ⌝ }
-{
+pub fn fault(heap: Global, classes: &[Class], nodes: &[Node]) -> Result<Option<u32>, Fail> {
     let own_classes = Vec::from_slice(heap, classes)?;
     let own_nodes = Vec::from_slice(heap, nodes)?;
     match Book::new(own_classes, own_nodes) {
@@ -108,9 +86,7 @@ pub struct Trial {
     pub expected: Option<u32>,
 }
 
-pub fn four(name: &'static str, nodes: [Node; 4], expected: Option<u32>) -> Trial
-    ensures { λ r. ⌜ r .nodes ≡ nodes ⌝ ∗ ⌜ r .expected ≡ expected ⌝ }
-{
+pub fn four(name: &'static str, nodes: [Node; 4], expected: Option<u32>) -> Trial {
     Trial {
         name,
         nodes,

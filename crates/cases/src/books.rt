@@ -55,7 +55,7 @@ fn in_slots(a: u32, b: u32) -> [u32; 6]
     [a, b, 0, 0, 0, 0]
 }
 
-pub fn example_classes() -> [Class; 2]
+fn example_classes() -> [Class; 2]
     ensures { λ r. ⌜ r ≡ example-classes ⌝ }
 {
     [Class { attributes: 1 }; 2]
@@ -83,7 +83,7 @@ fn every(class: u32, body: u32) -> Formula
     Formula::Every { class, body }
 }
 
-pub fn example_nodes() -> [Node; 6]
+fn example_nodes() -> [Node; 6]
     ensures { λ r. ⌜ r ≡ example-nodes ⌝ }
 {
     let both = in_slots(OPENING, GRANT);

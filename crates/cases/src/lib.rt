@@ -5,8 +5,6 @@ mod worked;
 pub use books::GRANT;
 pub use books::OPENING;
 pub use books::example_book;
-pub use books::example_classes;
-pub use books::example_nodes;
 pub use books::nested_book;
 pub use books::rule_book;
 pub use worked::worked_cases;

@@ -1,5 +1,4 @@
 // Makes rule books, tests event logs against them, and prints a line for each.
-ghost use mathlib.Core.Path.{_≡_};
 use book::Book;
 use cases::GRANT;
 use cases::OPENING;
@@ -15,25 +14,47 @@ use world::world_test;
 
 const PLENTY: u32 = 1000;
 
-fn opening(time: &[i64]) -> Element<'_>
-    ensures class { λ r. ⌜ r .class ≡ 1 ⌝ }
-    ensures values { λ r. ⌜ now (r .values) ≡ now (time .entry) ⌝ }
-{
-    Element {
-        class: OPENING,
-        values: time,
-    }
-}
+// An opening and a grant, by their times.
+const OPENING_3: Element<'static> = Element {
+    class: OPENING,
+    values: &[3],
+};
 
-fn grant(time: &[i64]) -> Element<'_>
-    ensures class { λ r. ⌜ r .class ≡ 2 ⌝ }
-    ensures values { λ r. ⌜ now (r .values) ≡ now (time .entry) ⌝ }
-{
-    Element {
-        class: GRANT,
-        values: time,
-    }
-}
+const OPENING_5: Element<'static> = Element {
+    class: OPENING,
+    values: &[5],
+};
+
+const GRANT_4: Element<'static> = Element {
+    class: GRANT,
+    values: &[4],
+};
+
+const GRANT_5: Element<'static> = Element {
+    class: GRANT,
+    values: &[5],
+};
+
+const GRANT_6: Element<'static> = Element {
+    class: GRANT,
+    values: &[6],
+};
+
+// Elements that no log of the example may have.
+const STRANGER: Element<'static> = Element {
+    class: 3,
+    values: &[6],
+};
+
+const TWO_TIMES: Element<'static> = Element {
+    class: GRANT,
+    values: &[5, 6],
+};
+
+const TOO_LATE: Element<'static> = Element {
+    class: GRANT,
+    values: &[2_147_483_648],
+};
 
 // What was tested, and what the world test says of it.
 fn show(
@@ -51,7 +72,7 @@ fn show(
 }
 
 fn show_logs(rt: &impl Print, book: &Book) -> Result<(), AnyError> {
-    let pair = [opening(&[5]), grant(&[5])];
+    let pair = [OPENING_5, GRANT_5];
     show(rt, book, "empty log", &[], PLENTY)?;
     show(rt, book, "opening at 5, grant at 5", &pair, PLENTY)?;
     show(rt, book, "the same, within 4 visits", &pair, 4)?;
@@ -60,28 +81,22 @@ fn show_logs(rt: &impl Print, book: &Book) -> Result<(), AnyError> {
         rt,
         book,
         "opening at 5, grant at 6",
-        &[opening(&[5]), grant(&[6])],
+        &[OPENING_5, GRANT_6],
         PLENTY,
     )?;
     show(
         rt,
         book,
         "opening at 5, an event of class 3",
-        &[
-            opening(&[5]),
-            Element {
-                class: 3,
-                values: &[6],
-            },
-        ],
+        &[OPENING_5, STRANGER],
         PLENTY,
     )?;
-    show(rt, book, "grant with two times", &[grant(&[5, 6])], PLENTY)?;
+    show(rt, book, "grant with two times", &[TWO_TIMES], PLENTY)?;
     show(
         rt,
         book,
         "grant at 2147483648",
-        &[opening(&[5]), opening(&[6]), grant(&[2_147_483_648])],
+        &[OPENING_5, OPENING_3, TOO_LATE],
         PLENTY,
     )
 }
@@ -108,14 +123,14 @@ fn run(rt: &LibcRuntime) -> Result<(), AnyError> {
         rt,
         &rule,
         "grant at 4, opening at 5",
-        &[grant(&[4]), opening(&[5])],
+        &[GRANT_4, OPENING_5],
         PLENTY,
     )?;
     show(
         rt,
         &rule,
         "opening at 3, grant at 4",
-        &[opening(&[3]), grant(&[4])],
+        &[OPENING_3, GRANT_4],
         PLENTY,
     )?;
     println!(rt, "Books at a limit.")?;

@@ -37,11 +37,10 @@ fn values_fit(values: &[i64]) -> bool
 fn element_fits(book: &Book, e: &Element) -> bool
     ensures { λ r. ⌜ r ≡ element-ok (classes-of (now (book .entry))) (element-of (now (e .entry))) ⌝ }
 {
-    if !book.has_class(e.class) {
-        return false;
+    match book.attributes(e.class) {
+        Some(count) => e.values.len() == count as usize && values_fit(e.values),
+        None => false,
     }
-    let count = book.attributes(e.class) as usize;
-    e.values.len() == count && values_fit(e.values)
 }
 
 // Every element, or the first fault.

@@ -1,7 +1,4 @@
 // Atoms: "0 or more" and "exactly 0", near 0 and at the largest sums.
-ghost use mathlib.Core.Path.{_≡_};
-ghost use mathlib.Core.Bool.{cond};
-ghost use Rattle.world.specs.declared.parts.Verdict.the-variants.{Yes, No};
 use crate::shared::*;
 use book::Atom;
 use book::Formula;
@@ -11,9 +8,7 @@ use world::Element;
 
 const LARGEST: i32 = 2_147_483_647;
 
-fn told(truth: bool, visits: u32) -> Answer
-    ensures { λ r. ⌜ r .verdict ≡ cond truth Yes (No 2) ⌝ ∗ ⌜ r .visits ≡ visits ⌝ }
-{
+fn told(truth: bool, visits: u32) -> Answer {
     if truth { yes(visits) } else { no(2, visits) }
 }
 
@@ -56,23 +51,6 @@ fn constants(rt: LibcRuntime) -> Result<(), Fail> {
     Ok(())
 }
 
-// An atom that is a premise itself takes no visit.
-#[test]
-fn bare_atoms(rt: LibcRuntime) -> Result<(), Fail> {
-    let fine = premise(Formula::AtLeast(Atom::new(&[], 0)));
-    for (constant, at_least, equal) in [(-1, false, false), (0, true, true), (1, true, false)] {
-        let atom = Atom::new(&[], constant);
-        for (formula, truth) in [
-            (Formula::AtLeast(atom), at_least),
-            (Formula::Equal(atom), equal),
-        ] {
-            let book = made(rt.alloc(), &[fine, premise(formula)])?;
-            exactly(&book, &[], told(truth, 0)).note(format_args!("constant {constant}"))?;
-        }
-    }
-    Ok(())
-}
-
 // A coefficient, a constant and a value whose sum is -1, 0 or 1.
 #[test]
 fn values(rt: LibcRuntime) -> Result<(), Fail> {
@@ -97,9 +75,7 @@ fn values(rt: LibcRuntime) -> Result<(), Fail> {
 }
 
 // As many terms as an atom can have: four of one coefficient, three of another, and the last one.
-fn eight(four: i32, three: i32, last: i32, constant: i32) -> Atom
-    ensures { λ r. ⌜ r .count ≡ 8 ⌝ ∗ ⌜ r .constant ≡ constant ⌝ }
-{
+fn eight(four: i32, three: i32, last: i32, constant: i32) -> Atom {
     let a = term(four, 0);
     let b = term(three, 0);
     Atom::new(&[a, a, a, a, b, b, b, term(last, 0)], constant)

@@ -1,4 +1,4 @@
-// Budgets: a test is refused just where it takes more visits.
+// Budgets: the tables try each log with just enough visits, and with one less. This is what comes before them.
 use crate::example::example;
 use crate::shared::*;
 use causes::Cause;
@@ -19,27 +19,6 @@ const GRANT: Element<'static> = Element {
     class: 2,
     values: &[5],
 };
-
-// Four visits.
-#[test]
-fn too_small(rt: LibcRuntime) -> Result<(), Fail> {
-    let book = example(rt.alloc())?;
-    for budget in [0, 1, 2, 3] {
-        let found = world_test(&book, &[OPENING, GRANT], budget);
-        check_eq(found, Err(Cause::OverBudget)).note(format_args!("budget {budget}"))?;
-    }
-    Ok(())
-}
-
-#[test]
-fn large_enough(rt: LibcRuntime) -> Result<(), Fail> {
-    let book = example(rt.alloc())?;
-    for budget in [4, 5, 6, 1000, 2_147_483_648, 4_294_967_295] {
-        let found = world_test(&book, &[OPENING, GRANT], budget);
-        check_eq(found, Ok(no(6, 4))).note(format_args!("budget {budget}"))?;
-    }
-    Ok(())
-}
 
 // A bad element is found before any visit.
 #[test]

@@ -1,8 +1,4 @@
 // Which elements are taken, and which refusal names which element.
-ghost use mathlib.Core.Path.{_≡_};
-ghost use lib.ListN.{length};
-ghost use Rattle.std.specs.Results.{Cases};
-ghost use Rattle.book.specs.Whole.{classes-of, nodes-of};
 use crate::shared::*;
 use book::Atom;
 use book::Book;
@@ -32,9 +28,7 @@ const BAD: Element<'static> = Element {
 };
 
 // Class 1 has one attribute, class 2 has three, and the one premise is true in every world.
-fn lenient(heap: Global) -> Result<Book, Fail>
-    ensures { λ r. ⌜ Cases r (λ b. (length (classes-of b) ≡ 2) × (length (nodes-of b) ≡ 1)) (λ _. Unit {0}) ⌝ }
-{
+fn lenient(heap: Global) -> Result<Book, Fail> {
     let classes = Vec::from_slice(heap, &[Class { attributes: 1 }, Class { attributes: 3 }])?;
     let nodes = Vec::from_slice(heap, &[premise(Formula::AtLeast(Atom::new(&[], 0)))])?;
     Ok(Book::new(classes, nodes)?)

@@ -1,10 +1,6 @@
 // The example book, written down once more: openings are class 1, grants are class 2, and each has its time.
 //
 // Premise 3: every opening has a grant at its time or before. Premise 6: some opening comes before every grant.
-ghost use mathlib.Core.Path.{_≡_};
-ghost use lib.ListN.{length};
-ghost use Rattle.std.specs.Results.{Cases};
-ghost use Rattle.book.specs.Whole.{nodes-of};
 use crate::shared::*;
 use book::Atom;
 use book::Book;
@@ -14,9 +10,7 @@ use std::test::*;
 
 const BOTH: [u32; 6] = [1, 2, 0, 0, 0, 0];
 
-pub fn example(heap: Global) -> Result<Book, Fail>
-    ensures { λ r. ⌜ Cases r (λ b. length (nodes-of b) ≡ 6) (λ _. Unit {0}) ⌝ }
-{
+pub fn example(heap: Global) -> Result<Book, Fail> {
     let not_later = Atom::new(&[term(1, 0), term(-1, 1)], 0);
     let later = Atom::new(&[term(-1, 0), term(1, 1)], -1);
     let nodes = [

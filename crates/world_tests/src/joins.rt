@@ -1,8 +1,4 @@
 // And, or: the visits show that the right child is read only where the left one does not decide.
-ghost use mathlib.Core.Path.{_≡_};
-ghost use lib.ListN.{length};
-ghost use Rattle.std.specs.Results.{Cases};
-ghost use Rattle.book.specs.Whole.{nodes-of};
 use crate::shared::*;
 use book::Atom;
 use book::Book;
@@ -11,9 +7,7 @@ use std::alloc::Global;
 use std::test::*;
 
 // The formula is node 5. Its children can be node 2, of class 1, and node 4, of class 2.
-fn joined(heap: Global, formula: Formula) -> Result<Book, Fail>
-    ensures { λ r. ⌜ Cases r (λ b. length (nodes-of b) ≡ 5) (λ _. Unit {0}) ⌝ }
-{
+fn joined(heap: Global, formula: Formula) -> Result<Book, Fail> {
     let [a, b, c, d] = claims(false, false);
     made(heap, &[a, b, c, d, premise(formula)])
 }
@@ -44,27 +38,6 @@ const DISJUNCTIONS_ROWS: &[Row] = &[
 fn disjunctions(rt: LibcRuntime) -> Result<(), Fail> {
     let book = joined(rt.alloc(), Formula::Or { left: 2, right: 4 })?;
     each_log(rt.alloc(), &book, DISJUNCTIONS_ROWS)
-}
-
-const CHILDREN_EXCHANGED_AND_ROWS: &[Row] = &[
-    ("both true", &[(1, 1), (2, 1), (2, 1)], 0, 3),
-    ("class 1 true", &[(1, 1), (2, -1), (2, -1)], 5, 1),
-    ("class 2 true", &[(1, -1), (2, 1), (2, 1)], 5, 3),
-];
-
-const CHILDREN_EXCHANGED_OR_ROWS: &[Row] = &[
-    ("both true", &[(1, 1), (2, 1), (2, 1)], 0, 2),
-    ("class 1 true", &[(1, 1), (2, -1), (2, -1)], 0, 2),
-    ("class 2 true", &[(1, -1), (2, 1), (2, 1)], 0, 2),
-];
-
-// The left child is the one that is named so, whatever its number.
-#[test]
-fn children_exchanged(rt: LibcRuntime) -> Result<(), Fail> {
-    let conjunction = joined(rt.alloc(), Formula::And { left: 4, right: 2 })?;
-    let disjunction = joined(rt.alloc(), Formula::Or { left: 4, right: 2 })?;
-    each_log(rt.alloc(), &conjunction, CHILDREN_EXCHANGED_AND_ROWS).note("and")?;
-    each_log(rt.alloc(), &disjunction, CHILDREN_EXCHANGED_OR_ROWS).note("or")
 }
 
 const ONE_CHILD_TWICE_AND_ROWS: &[Row] = &[

@@ -50,18 +50,3 @@ fn one_of_two(rt: LibcRuntime) -> Result<(), Fail> {
         ONE_OF_TWO_SECOND_ROWS,
     ).note("node 4")
 }
-
-const PREMISES_AS_CHILDREN_ROWS: &[Row] = &[
-    ("both true", &[(1, 1), (2, 1), (2, 1)], 0, 4),
-    ("the first one false", &[(1, -1), (2, 1)], 2, 1),
-    ("no element", &[], 0, 0),
-];
-
-// A premise that is also a child of another premise is read for each.
-#[test]
-fn premises_as_children(rt: LibcRuntime) -> Result<(), Fail> {
-    let [a, b, c, d] = claims(true, true);
-    let either = premise(Formula::Or { left: 2, right: 4 });
-    let book = made(rt.alloc(), &[a, b, c, d, either])?;
-    each_log(rt.alloc(), &book, PREMISES_AS_CHILDREN_ROWS)
-}

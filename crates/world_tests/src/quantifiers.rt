@@ -1,8 +1,4 @@
 // Exists, every: elements of the class in list order, up to the one that decides.
-ghost use mathlib.Core.Path.{_≡_};
-ghost use lib.ListN.{length};
-ghost use Rattle.std.specs.Results.{Cases};
-ghost use Rattle.book.specs.Whole.{nodes-of};
 use crate::shared::*;
 use book::Book;
 use book::Formula;
@@ -10,9 +6,7 @@ use std::alloc::Global;
 use std::test::*;
 
 // The formula is node 2, and its body, node 1, is true where the element has 0 or more.
-fn over(heap: Global, formula: Formula) -> Result<Book, Fail>
-    ensures { λ r. ⌜ Cases r (λ b. length (nodes-of b) ≡ 2) (λ _. Unit {0}) ⌝ }
-{
+fn over(heap: Global, formula: Formula) -> Result<Book, Fail> {
     made(heap, &[node(FIRST, not_negative()), premise(formula)])
 }
 

@@ -1,14 +1,4 @@
 // What the tests share: books of two classes, logs in short, and tables of logs with their answers.
-ghost use mathlib.Core.Path.{_≡_};
-ghost use mathlib.Core.Bool.{true, false};
-ghost use mathlib.Core.List.{[], _∷_};
-ghost use lib.IntN.{pos};
-ghost use lib.ListN.{length};
-ghost use Rattle.std.specs.Results.{Cases};
-ghost use Rattle.book.specs.Rules.{node-at, places-of};
-ghost use Rattle.book.specs.Whole.{classes-of, nodes-of};
-ghost use Rattle.book.specs.declared.parts.Formula.the-variants.{AtLeast};
-ghost use Rattle.world.specs.declared.parts.Verdict.the-variants.{Yes, No};
 use book::Atom;
 use book::Book;
 use book::Class;
@@ -38,9 +28,7 @@ pub const FIRST: [u32; 6] = [1, 0, 0, 0, 0, 0];
 
 pub const SECOND: [u32; 6] = [2, 0, 0, 0, 0, 0];
 
-pub fn term(coefficient: i32, slot: u32) -> Term
-    ensures { λ r. ⌜ r .coefficient ≡ coefficient ⌝ ∗ ⌜ r .slot ≡ slot ⌝ ∗ ⌜ r .attribute ≡ 0 ⌝ }
-{
+pub fn term(coefficient: i32, slot: u32) -> Term {
     Term {
         coefficient,
         slot,
@@ -48,9 +36,7 @@ pub fn term(coefficient: i32, slot: u32) -> Term
     }
 }
 
-pub fn node(scope: [u32; 6], formula: Formula) -> Node
-    ensures { λ r. ⌜ r .scope ≡ scope ⌝ ∗ ⌜ r .premise ≡ false ⌝ ∗ ⌜ r .formula ≡ formula ⌝ }
-{
+pub fn node(scope: [u32; 6], formula: Formula) -> Node {
     Node {
         scope,
         premise: false,
@@ -58,9 +44,7 @@ pub fn node(scope: [u32; 6], formula: Formula) -> Node
     }
 }
 
-pub fn premise(formula: Formula) -> Node
-    ensures { λ r. ⌜ r .scope ≡ 0 ∷ 0 ∷ 0 ∷ 0 ∷ 0 ∷ 0 ∷ [] ⌝ ∗ ⌜ r .premise ≡ true ⌝ ∗ ⌜ r .formula ≡ formula ⌝ }
-{
+pub fn premise(formula: Formula) -> Node {
     Node {
         scope: NO_SCOPE,
         premise: true,
@@ -69,24 +53,18 @@ pub fn premise(formula: Formula) -> Node
 }
 
 // True where the element in the first slot has 0 or more.
-pub fn not_negative() -> Formula
-    ensures { λ r. ⌜ r ≡ AtLeast (record { terms = places-of (record { coefficient = pos 1; slot = 0; attribute = 0 } ∷ []); count = 1; constant = pos 0 }) ⌝ }
-{
+pub fn not_negative() -> Formula {
     Formula::AtLeast(Atom::new(&[term(1, 0)], 0))
 }
 
-pub fn made(heap: Global, nodes: &[Node]) -> Result<Book, Fail>
-    ensures { λ r. ⌜ Cases r (λ b. (length (classes-of b) ≡ 2) × (nodes-of b ≡ now (nodes .entry))) (λ _. Unit {0}) ⌝ }
-{
+pub fn made(heap: Global, nodes: &[Node]) -> Result<Book, Fail> {
     let classes = Vec::from_slice(heap, &CLASSES)?;
     let nodes = Vec::from_slice(heap, nodes)?;
     Ok(Book::new(classes, nodes)?)
 }
 
 // Node 2: every element of class 1 has 0 or more. Node 4: the same of class 2.
-pub fn claims(first: bool, second: bool) -> [Node; 4]
-    ensures { λ r. ⌜ node-at r 2 .premise ≡ first ⌝ ∗ ⌜ node-at r 4 .premise ≡ second ⌝ }
-{
+pub fn claims(first: bool, second: bool) -> [Node; 4] {
     [
         node(FIRST, not_negative()),
         Node {
@@ -115,18 +93,14 @@ pub fn elements<'a>(heap: Global, log: &'a [(u32, i64)]) -> Result<Vec<Element<'
     Ok(all)
 }
 
-pub fn yes(visits: u32) -> Answer
-    ensures { λ r. ⌜ r .verdict ≡ Yes ⌝ ∗ ⌜ r .visits ≡ visits ⌝ }
-{
+pub fn yes(visits: u32) -> Answer {
     Answer {
         verdict: Verdict::Yes,
         visits,
     }
 }
 
-pub fn no(premise: u32, visits: u32) -> Answer
-    ensures { λ r. ⌜ r .verdict ≡ No premise ⌝ ∗ ⌜ r .visits ≡ visits ⌝ }
-{
+pub fn no(premise: u32, visits: u32) -> Answer {
     Answer {
         verdict: Verdict::No { premise },
         visits,
