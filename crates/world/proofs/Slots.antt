@@ -9,7 +9,7 @@ use lib.ListN.{length, getD, set}
 use denote.Ref.{now}
 use Rattle.std.proofs.shelf.Lists.{getD-map, getD-past, length-map, map-set}
 use Rattle.world.specs.Worlds.{World, Element, element-of, element-at, world-of, no-element}
-use Rattle.world.specs.Truth.{Env, nothing, reading}
+use Rattle.world.specs.Truth.{Env, reading}
 use Rattle.world.specs.Inner.{values-at, env-of}
 use Rattle.world.specs.declared.parts.Element.{Element as Given}
 
@@ -60,7 +60,3 @@ outside log i l = omega (arith, length-world log)
 
 pub element-next : (log : List Given) (i : ℕ) (d : Given) → i < length log → element-at (world-of log) (i + 1) ≡ element-of (getD log i d)
 element-next log i d l = let e : i + 1 - 1 ≡ i = omega arith in ap (λ k. getD (world-of log) k no-element) e ∙ world-at log i d l
-
-pub empty-slots : (world : World) → env-of world (0 ∷ 0 ∷ 0 ∷ 0 ∷ 0 ∷ 0 ∷ []) ≡ nothing
-unfolding values-at
-empty-slots world = refl

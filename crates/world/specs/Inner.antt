@@ -47,15 +47,17 @@ pub record Ready (nodes : List Node) (world : World) (n : ℕ) : Type 0 where
   pub few : length world ≤ most-elements
   pub calm : Calm world
 
--- what is told within a budget
-abbrev pub Told : ℕ → Evaluation → Result Evaluation Cause → Type 0
-Told budget o (Ok a) = (a ≡ o) × (o .visits ≤ budget)
-Told budget o (Err e) = (e ≡ OverBudget) × (budget < o .visits)
+-- what is found, with so many visits, is told where the budget suffices, and refused where it does not
+abbrev pub Within : {X : Type 0} → (X → ℕ) → ℕ → X → Result X Cause → Type 0
+Within visits budget o (Ok a) = (a ≡ o) × (visits o ≤ budget)
+Within visits budget o (Err e) = (e ≡ OverBudget) × (budget < visits o)
 
--- the premises' answer within a budget
+-- the same of a node, and of the premises
+abbrev pub Told : ℕ → Evaluation → Result Evaluation Cause → Type 0
+Told budget o r = Within (λ (x : Evaluation). x .visits) budget o r
+
 abbrev pub Given-within : ℕ → Answer → Result Answer Cause → Type 0
-Given-within budget o (Ok a) = (a ≡ o) × (o .visits ≤ budget)
-Given-within budget o (Err e) = (e ≡ OverBudget) × (budget < o .visits)
+Given-within budget o r = Within (λ (x : Answer). x .visits) budget o r
 
 -- a refusal of the elements
 abbrev pub Unfit-by : List Class → World → Cause → Type 0

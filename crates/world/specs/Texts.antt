@@ -12,9 +12,10 @@ abbrev pub verdict-number : Verdict → ℕ
 verdict-number Yes = 0
 verdict-number (No premise) = premise
 
-abbrev pub verdict-text : Verdict → List ℕ
-verdict-text Yes = codes "yes"
-verdict-text (No premise) = codes "no, premise " ++ (decimal premise ++ codes " is false")
+-- a verdict, and the count of visits
+abbrev pub told-text : Verdict → ℕ → List ℕ
+told-text Yes visits = codes "yes, visits " ++ decimal visits
+told-text (No premise) visits = codes "no, premise " ++ (decimal premise ++ (codes " is false, visits " ++ decimal visits))
 
 abbrev pub answer-text : Answer → List ℕ
-answer-text a = verdict-text (a .verdict) ++ (codes ", visits " ++ decimal (a .visits))
+answer-text a = told-text (a .verdict) (a .visits)

@@ -17,4 +17,3 @@ pub use parts::VerdictDebug;
 pub use parts::VerdictPartialEq;
 pub use testing::world_test;
 pub use text::AnswerDisplay;
-pub use text::VerdictDisplay;

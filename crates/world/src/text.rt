@@ -1,7 +1,7 @@
 // The answers of the world test by number and as text.
 ghost use mathlib.Core.Path.{_≡_};
 ghost use Rattle.std.specs.declared.option.Option.the-variants.{Some};
-ghost use Rattle.world.specs.Texts.{verdict-number, verdict-text, answer-text};
+ghost use Rattle.world.specs.Texts.{verdict-number, answer-text};
 use crate::parts::Answer;
 use crate::parts::Verdict;
 use std::fmt;
@@ -18,23 +18,14 @@ impl Verdict {
     }
 }
 
-pub impl fmt::Display for Verdict as VerdictDisplay {
-    ghost shown = { λ v. Some (verdict-text v) };
-
-    fn fmt<W: fmt::Write>(&self, f: &mut fmt::Formatter<W>) -> fmt::Result {
-        match *self {
-            Verdict::Yes => write!(f, "yes"),
-            Verdict::No { premise } => write!(f, "no, premise {premise} is false"),
-        }
-    }
-}
-
 pub impl fmt::Display for Answer as AnswerDisplay {
     ghost shown = { λ a. Some (answer-text a) };
 
     fn fmt<W: fmt::Write>(&self, f: &mut fmt::Formatter<W>) -> fmt::Result {
-        let verdict = self.verdict;
         let visits = self.visits;
-        write!(f, "{verdict}, visits {visits}")
+        match self.verdict {
+            Verdict::Yes => write!(f, "yes, visits {visits}"),
+            Verdict::No { premise } => write!(f, "no, premise {premise} is false, visits {visits}"),
+        }
     }
 }
