@@ -1,4 +1,6 @@
 // Rule books: classes of elements and a table of formula nodes, some of them premises.
+#![tactic(auto)]
+
 mod atoms;
 mod made;
 mod parts;

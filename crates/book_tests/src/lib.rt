@@ -1,4 +1,6 @@
 // Tests of rule books: each rule on both sides of its limit.
+#![tactic(auto)]
+
 #[cfg(test)]
 mod atoms;
 #[cfg(test)]

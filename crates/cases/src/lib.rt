@@ -1,4 +1,6 @@
 // The example book, and the worked cases that are proved of it.
+#![tactic(auto)]
+
 mod books;
 mod judging;
 mod worked;

@@ -1,4 +1,6 @@
 // Makes rule books, tests event logs against them, asks judges about rows, and prints a line for each.
+#![tactic(auto)]
+
 mod judging;
 
 use book::Book;

@@ -1,4 +1,6 @@
 // Judges from outside the library, and tests of all judges: each limit on both sides, and each cause.
+#![tactic(auto)]
+
 #[cfg(test)]
 mod chains;
 #[cfg(test)]

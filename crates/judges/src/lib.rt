@@ -1,4 +1,6 @@
 // Judges: what shows that no whole numbers satisfy a list of rows.
+#![tactic(auto)]
+
 mod asking;
 mod chains;
 mod combine;

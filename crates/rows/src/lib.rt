@@ -1,4 +1,6 @@
 // Linear rows over whole numbers, and why a judge of them says no.
+#![tactic(auto)]
+
 mod cause;
 mod making;
 mod row;

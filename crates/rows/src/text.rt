@@ -58,7 +58,7 @@ fn sign(first: bool, negative: bool) -> &'static str
 
 // A term, which is the first one of its row or stands after another.
 fn put_term<W: fmt::Write>(f: &mut fmt::Formatter<W>, term: &Term, first: bool) -> fmt::Result
-    ensures { WritesOnOk write_str_gives f.old result (term_text first term.now) f.new }
+    ensures { WritesOnOk W.write_str_gives f.old result (term_text first term.now) f.new }
 {
     let sign = sign(first, term.coefficient < 0);
     let object = term.unknown.object;
@@ -71,7 +71,7 @@ fn put_term<W: fmt::Write>(f: &mut fmt::Formatter<W>, term: &Term, first: bool) 
 
 // Terms that stand after another.
 fn put_more_terms<W: fmt::Write>(f: &mut fmt::Formatter<W>, terms: &[Term]) -> fmt::Result
-    ensures { WritesOnOk write_str_gives f.old result (more_terms_text terms.now) f.new }
+    ensures { WritesOnOk W.write_str_gives f.old result (more_terms_text terms.now) f.new }
 {
     for term in terms {
         put_term(f, term, false)?;
@@ -81,7 +81,7 @@ fn put_more_terms<W: fmt::Write>(f: &mut fmt::Formatter<W>, terms: &[Term]) -> f
 
 // A constant that stands after a term.
 fn put_more<W: fmt::Write>(f: &mut fmt::Formatter<W>, constant: i64) -> fmt::Result
-    ensures { WritesOnOk write_str_gives f.old result (more_text constant) f.new }
+    ensures { WritesOnOk W.write_str_gives f.old result (more_text constant) f.new }
 {
     let sign = sign(false, constant < 0);
     match constant.unsigned_abs() {
@@ -91,7 +91,7 @@ fn put_more<W: fmt::Write>(f: &mut fmt::Formatter<W>, constant: i64) -> fmt::Res
 }
 
 fn put_sum<W: fmt::Write>(f: &mut fmt::Formatter<W>, terms: &[Term], constant: i64) -> fmt::Result
-    ensures { WritesOnOk write_str_gives f.old result (sum_text terms.now constant) f.new }
+    ensures { WritesOnOk W.write_str_gives f.old result (sum_text terms.now constant) f.new }
 {
     match terms {
         [] => write!(f, "{constant}"),

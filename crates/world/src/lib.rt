@@ -1,4 +1,6 @@
 // Worlds, and what the premises of a book say in them.
+#![tactic(auto)]
+
 mod atoms;
 mod elements;
 mod evaluate;

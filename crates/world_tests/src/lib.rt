@@ -1,4 +1,6 @@
 // Tests of the world test: verdicts and visits worked out by hand, and each refusal on both sides of its limit.
+#![tactic(auto)]
+
 #[cfg(test)]
 mod atoms;
 #[cfg(test)]

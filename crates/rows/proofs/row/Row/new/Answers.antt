@@ -5,5 +5,5 @@ use Rattle.rows.proofs.row.Row.new.Goals as goal
 pub returns : goal.returns
 returns c = record {
   row = search rules;
-  kept = ap (take (length c.args.terms.now)) c.places.ensures ∙ places_kept c.args.terms.now c.if-terms-gt-MOST-TERMS.false;
+  kept = ap (take (length c.args.terms.now)) c.places.ensures ∙ places_kept c.args.terms.now c.if-terms-gt-MOST_TERMS.false;
 }
