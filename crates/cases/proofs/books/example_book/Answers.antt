@@ -2,5 +2,5 @@ use Rattle.cases.specs.Book.{example_classes_lem, example_nodes_lem}
 use Rattle.cases.proofs.Computed.{example_made, lawful_at}
 use Rattle.cases.proofs.books.example_book.Goals as goal
 
-pub lawful-book-requires : goal.lawful-book-requires
-lawful-book-requires c = lawful_at _ example_classes_lem _ example_nodes_lem c.example_classes_lem.ensures c.example-nodes-nodes.ensures example_made
+pub lawful_book-requires : goal.lawful_book-requires
+lawful_book-requires c = lawful_at _ example_classes_lem _ example_nodes_lem c.example_classes.ensures c.example_nodes-nodes.ensures example_made

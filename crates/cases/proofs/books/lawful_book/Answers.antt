@@ -4,4 +4,4 @@ use Rattle.cases.proofs.books.lawful_book.Goals as goal
 
 pub unreachable-requires : goal.unreachable-requires
 unreachable-requires c =
-    not_refused (vec_items c.in-ok-own-classes.own-classes) c.args.classes.now (vec_items c.in-ok-own-nodes.own-nodes) c.args.nodes.now c.in-ok-own-classes.ensures.items c.in-ok-own-nodes.ensures.items c.requires c.in-Err.field-0 c.in-Err.ensures
+    not_refused (vec_items c.in_ok-own_classes.own_classes) c.args.classes.now (vec_items c.in_ok-own_nodes.own_nodes) c.args.nodes.now c.in_ok-own_classes.ensures.items c.in_ok-own_nodes.ensures.items c.requires c.in-Err.field-0 c.in-Err.ensures

@@ -5,4 +5,4 @@ use Rattle.cases.proofs.books.nested_book.Goals as goal
 
 pub returns : goal.returns
 returns c =
-    making_at (vec_items c.in-ok-classes.classes) one_class (vec_items c.in-ok-nodes.nodes) (nested_nodes_lem c.args.scope) c.in-ok-classes.ensures.items (c.in-ok-nodes.ensures.items ∙ c.nested_nodes_lem.ensures) c.new.result c.new.ensures
+    making_at (vec_items c.in_ok-classes.classes) one_class (vec_items c.in_ok-nodes.nodes) (nested_nodes_lem c.args.scope) c.in_ok-classes.ensures.items (c.in_ok-nodes.ensures.items ∙ c.nested_nodes.ensures) c.new.result c.new.ensures

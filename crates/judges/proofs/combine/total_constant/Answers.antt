@@ -5,8 +5,8 @@ use Rattle.judges.specs.Sizes.{constants_fit}
 use Rattle.judges.proofs.Tables.{constant_step, constant_all}
 use Rattle.judges.proofs.combine.total_constant.Goals as goal
 
-pub weigh-constant-sum-requires : goal.weigh-constant-sum-requires
-weigh-constant-sum-requires c =
+pub weigh_constant-sum-requires : goal.weigh_constant-sum-requires
+weigh_constant-sum-requires c =
     let ns = c.args.numbers.now in
     let k = c.loop-k.k in
     let f : SFits w32 (get_or ns k (pos 0)) = search rules in
@@ -16,7 +16,7 @@ weigh-constant-sum-requires c =
 pub overflow-add-sum : goal.overflow-add-sum
 overflow-add-sum c =
     let few : c.loop-k.k < 32 = omega arith in
-    constants_fit _ c.weigh-constant-sum.result c.loop-k.k few c.loop-k.invariant.1 c.weigh-constant-sum.ensures.size
+    constants_fit _ c.weigh_constant-sum.result c.loop-k.k few c.loop-k.invariant.1 c.weigh_constant-sum.ensures.size
 
 pub loop-k-preserved : goal.loop-k-preserved
 loop-k-preserved c =
@@ -27,8 +27,8 @@ loop-k-preserved c =
     let g : SFits w64 (get_or rows k no_row).constant = search rules in
     let m : k < length ns = omega arith in
     let few : k < 32 = omega arith in
-    let v : c.weigh-constant-sum.result ≡ get_or ns k (pos 0) *ℤ (get_or rows k no_row).constant = simp to_z-of_z at c.weigh-constant-sum.ensures.value in
-    constant_step rows ns k c.loop-k-test.true m few _ c.weigh-constant-sum.result _ c.loop-k.invariant.1 c.weigh-constant-sum.ensures.size v c.loop-k.invariant.0
+    let v : c.weigh_constant-sum.result ≡ get_or ns k (pos 0) *ℤ (get_or rows k no_row).constant = simp to_z-of_z at c.weigh_constant-sum.ensures.value in
+    constant_step rows ns k c.loop-k-test.true m few _ c.weigh_constant-sum.result _ c.loop-k.invariant.1 c.weigh_constant-sum.ensures.size v c.loop-k.invariant.0
 
 pub returns : goal.returns
 returns c =

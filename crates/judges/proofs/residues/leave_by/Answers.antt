@@ -28,14 +28,14 @@ returns-then-not-fits c =
     at_modulus rows c.args.modulus c.args.numbers.now _ c.ranges.modulus
     (answer_voucher (residue_passes rows (to_z w32 (of_z w32 c.args.modulus) ∷ c.args.numbers.now)) (le-leb (length rows) residue_rows c.requires) (sym c.if-not-fits.ensures))
 
-pub returns-then-not-are-equations : goal.returns-then-not-are-equations
-returns-then-not-are-equations c =
+pub returns-then-not-are_equations : goal.returns-then-not-are_equations
+returns-then-not-are_equations c =
     let rows = c.args.rows.now in
     at_modulus rows c.args.modulus c.args.numbers.now _ c.ranges.modulus
-    (answer_shape (residue_passes rows (to_z w32 (of_z w32 c.args.modulus) ∷ c.args.numbers.now)) (le-leb (length rows) residue_rows c.requires) (sym c.if-not-fits.ensures) (sym c.if-not-are-equations.ensures))
+    (answer_shape (residue_passes rows (to_z w32 (of_z w32 c.args.modulus) ∷ c.args.numbers.now)) (le-leb (length rows) residue_rows c.requires) (sym c.if-not-fits.ensures) (sym c.if-not-are_equations.ensures))
 
-pub total-constant-requires : goal.total-constant-requires
-total-constant-requires c =
+pub total_constant-requires : goal.total_constant-requires
+total_constant-requires c =
     let h = combinable c.args.rows.now (to_z w32 (of_z w32 c.args.modulus)) c.args.numbers.now c.requires (sym c.if-not-fits.ensures) in
     record { few = h.0; each = h.1; small = h.2 }
 
@@ -49,11 +49,11 @@ returns c =
     let rows = c.args.rows.now in
     let ns = c.args.numbers.now in
     let m = to_z w32 (of_z w32 c.args.modulus) in
-    let k = c.total-constant.result in
+    let k = c.total_constant.result in
     let f : SFits w128 k = search rules in
     at_modulus rows c.args.modulus ns _ c.ranges.modulus
-    (answer_last (residue_passes rows (m ∷ ns)) (le-leb (length rows) residue_rows c.requires) (sym c.if-not-fits.ensures) (sym c.if-not-are-equations.ensures)
-    c.is-divided-unknowns-gone.result (not c.divides.result)
-    (c.is-divided-unknowns-gone.ensures ∙ totals_divided m (held c.gather.result) rows ns c.gather.ensures.table)
-    (ap not (c.divides.ensures ∙ ap (divides m) (to_z-of_z w128 k f ∙ c.total-constant.ensures)))
-    c.last-cause.result c.last-cause.ensures)
+    (answer_last (residue_passes rows (m ∷ ns)) (le-leb (length rows) residue_rows c.requires) (sym c.if-not-fits.ensures) (sym c.if-not-are_equations.ensures)
+    c.is_divided-unknowns_gone.result (not c.divides.result)
+    (c.is_divided-unknowns_gone.ensures ∙ totals_divided m (held c.gather.result) rows ns c.gather.ensures.table)
+    (ap not (c.divides.ensures ∙ ap (divides m) (to_z-of_z w128 k f ∙ c.total_constant.ensures)))
+    c.last_cause.result c.last_cause.ensures)

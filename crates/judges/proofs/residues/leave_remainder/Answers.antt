@@ -10,6 +10,6 @@ returns-in-len1-up c =
     let voucher = c.args.voucher.now in
     let some : 0 < length voucher = search rules in
     let f : SFits w32 (get_or voucher 0 (pos 0)) = search rules in
-    c.leave-by.ensures
+    c.leave_by.ensures
     ∙ ap (λ (m : ℤ). residue_answer rows (m ∷ take (length voucher - 1) (drop 1 voucher))) (to_z-of_z w32 (get_or voucher 0 (pos 0)) f)
     ∙ ap (residue_answer rows) (parted voucher some)

@@ -8,14 +8,14 @@ use Rattle.judges.proofs.unknowns.are_between.Goals as goal
 kept : (low high : ℤ) → SFits w32 low → SFits w32 high → (ns : List ℤ) → all_between low high ns ≡ all_between (to_z w32 (of_z w32 low)) (to_z w32 (of_z w32 high)) ns
 kept low high f g ns = let p = sym (to_z-of_z w32 low f) in let q = sym (to_z-of_z w32 high g) in λ j. all_between (p j) (q j) ns
 
-pub returns-then-not-is-between : goal.returns-then-not-is-between
-returns-then-not-is-between c =
+pub returns-then-not-is_between : goal.returns-then-not-is_between
+returns-then-not-is_between c =
     let ns = c.args.numbers.now in
     let i = c.loop-n.n-index in
     let low = to_z w32 (of_z w32 c.args.low) in
     let high = to_z w32 (of_z w32 c.args.high) in
     let f : SFits w32 (get_or ns i (pos 0)) = search rules in
-    let here = ap (between low high) (sym (to_z-of_z w32 (get_or ns i (pos 0)) f)) ∙ sym c.if-not-is-between.ensures in
+    let here = ap (between low high) (sym (to_z-of_z w32 (get_or ns i (pos 0)) f)) ∙ sym c.if-not-is_between.ensures in
     sym (kept c.args.low c.args.high c.ranges.low c.ranges.high ns ∙ c.loop-n.invariant
     ∙ at_drop_more (all_between low high) ns i (pos 0) c.loop-n-test.true ∙ ap (λ b. b && all_between low high (drop (i + 1) ns)) here)
 
@@ -26,7 +26,7 @@ loop-n-preserved c =
     let low = to_z w32 (of_z w32 c.args.low) in
     let high = to_z w32 (of_z w32 c.args.high) in
     let f : SFits w32 (get_or ns i (pos 0)) = search rules in
-    let here = ap (between low high) (sym (to_z-of_z w32 (get_or ns i (pos 0)) f)) ∙ sym c.if-not-is-between.ensures in
+    let here = ap (between low high) (sym (to_z-of_z w32 (get_or ns i (pos 0)) f)) ∙ sym c.if-not-is_between.ensures in
     c.loop-n.invariant ∙ at_drop_more (all_between low high) ns i (pos 0) c.loop-n-test.true ∙ ap (λ b. b && all_between low high (drop (i + 1) ns)) here
 
 pub returns : goal.returns

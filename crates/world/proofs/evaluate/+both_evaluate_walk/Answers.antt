@@ -12,7 +12,7 @@ use Rattle.world.proofs.Arms.{arm_sound, arm_says, arm_depth, ready_before, told
 use Rattle.world.proofs.Slots.{slot_set, class_at, inside, outside, length_world}
 use Rattle.world.proofs.Walks.{Walked, body_of, walk_ends, walk_skips, walk_spent, walk_over, walk_stops, walk_goes, beq_same, beq_other}
 use Rattle.world.proofs.evaluate.+both_evaluate_walk.Goals as goal
-use Rattle.world.proofs.evaluate.+both_evaluate_walk.Goals.{walk-then-e-q+else-visits-budget+in-ok-b+else-b-q, walk-else-e-q}
+use Rattle.world.proofs.evaluate.+both_evaluate_walk.Goals.{walk-then-e-q+else-visits-budget+in_ok-b+else-b-q, walk-else-e-q}
 
 pub evaluate-worth-requires : goal.evaluate-worth-requires
 evaluate-worth-requires t c = record { atom = arm_sound c.args.book.now (world_of c.args.log.now) c.args.n c.requires c.nodes.result.now c.nodes.ensures c.in-AtLeast.is; calm = c.requires.calm }
@@ -100,10 +100,10 @@ walk-overflow-sub-budget t c = omega (arith, c.if-visits-budget.false, c.loop-i.
 pub walk-evaluate-requires : goal.walk-evaluate-requires
 walk-evaluate-requires t c = (omega (arith, c.decreases), c.requires.body)
 
-pub walk-returns-in-err-b : goal.walk-returns-in-err-b
-walk-returns-in-err-b t c =
-    let p = err_from_is_err_and c.from-residual.result c.from-residual.ensures.1 in
-    let k = c.in-err-b.ensures in
+pub walk-returns-in_err-b : goal.walk-returns-in_err-b
+walk-returns-in_err-b t c =
+    let p = err_from_is_err_and c.from_residual.result c.from_residual.ensures.1 in
+    let k = c.in_err-b.ensures in
     let said : Env → Evaluation = evaluated (nodes_of c.args.book.now) (world_of c.args.log.now) c.args.q.body in
     let s = slot_set (world_of c.args.log.now) c.args.slots c.args.q.slot c.loop-i.i in
     let over = walk_over c.args.q.want c.args.q.class (body_of (nodes_of c.args.book.now) (world_of c.args.log.now) c.args.q.body (env_of (world_of c.args.log.now) c.args.slots) c.args.q.slot) (world_of c.args.log.now) c.loop-i.i c.args.budget c.loop-i.visits c.loop-i.invariant (inside c.args.log.now c.loop-i.i c.loop-i-test.true) (class_at c.args.log.now c.loop-i.i _ c.loop-i-test.true ∙ c.if-e-q.true) (subst (λ e. c.args.budget - (c.loop-i.visits + 1) < (said e).visits) s k.1) in
@@ -111,24 +111,24 @@ walk-returns-in-err-b t c =
 
 pub walk-overflow-add-visits-then-e-q : goal.walk-overflow-add-visits-then-e-q
 walk-overflow-add-visits-then-e-q t c =
-    let k = c.in-ok-b.ensures in
+    let k = c.in_ok-b.ensures in
     omega (arith, k.1, ap (λ (o : Evaluation). o.visits) k.0, c.if-visits-budget.false, c.loop-i.invariant.within)
 
 pub walk-returns-then-b-q : goal.walk-returns-then-b-q
 walk-returns-then-b-q t c =
-    let k = c.in-ok-b.ensures in
+    let k = c.in_ok-b.ensures in
     let said : Env → Evaluation = evaluated (nodes_of c.args.book.now) (world_of c.args.log.now) c.args.q.body in
     let s = slot_set (world_of c.args.log.now) c.args.slots c.args.q.slot c.loop-i.i in
-    walk_stops c.args.q.want c.args.q.class (body_of (nodes_of c.args.book.now) (world_of c.args.log.now) c.args.q.body (env_of (world_of c.args.log.now) c.args.slots) c.args.q.slot) (world_of c.args.log.now) c.loop-i.i c.args.budget c.loop-i.visits c.loop-i.invariant (inside c.args.log.now c.loop-i.i c.loop-i-test.true) (class_at c.args.log.now c.loop-i.i _ c.loop-i-test.true ∙ c.if-e-q.true) c.in-ok-b.b (k.0 ∙ ap said s) c.if-visits-budget.false (subst (λ e. (said e).visits ≤ c.args.budget - (c.loop-i.visits + 1)) s k.1) (beq_same c.in-ok-b.b.truth c.args.q.want c.if-b-q.true)
+    walk_stops c.args.q.want c.args.q.class (body_of (nodes_of c.args.book.now) (world_of c.args.log.now) c.args.q.body (env_of (world_of c.args.log.now) c.args.slots) c.args.q.slot) (world_of c.args.log.now) c.loop-i.i c.args.budget c.loop-i.visits c.loop-i.invariant (inside c.args.log.now c.loop-i.i c.loop-i-test.true) (class_at c.args.log.now c.loop-i.i _ c.loop-i-test.true ∙ c.if-e-q.true) c.in_ok-b.b (k.0 ∙ ap said s) c.if-visits-budget.false (subst (λ e. (said e).visits ≤ c.args.budget - (c.loop-i.visits + 1)) s k.1) (beq_same c.in_ok-b.b.truth c.args.q.want c.if-b-q.true)
 
 pub walk-loop-i-preserved : goal.walk-loop-i-preserved
 walk-loop-i-preserved t c =
     elim c.if-e-q.branch [
-      | walk-then-e-q+else-visits-budget+in-ok-b+else-b-q w ↦
-          (let k = w.in-ok-b.ensures in
+      | walk-then-e-q+else-visits-budget+in_ok-b+else-b-q w ↦
+          (let k = w.in_ok-b.ensures in
           let said : Env → Evaluation = evaluated (nodes_of c.args.book.now) (world_of c.args.log.now) c.args.q.body in
           let s = slot_set (world_of c.args.log.now) c.args.slots c.args.q.slot c.loop-i.i in
-          rw w.visits-is (walk_goes c.args.q.want c.args.q.class (body_of (nodes_of c.args.book.now) (world_of c.args.log.now) c.args.q.body (env_of (world_of c.args.log.now) c.args.slots) c.args.q.slot) (world_of c.args.log.now) c.loop-i.i c.args.budget c.loop-i.visits c.loop-i.invariant (inside c.args.log.now c.loop-i.i c.loop-i-test.true) (class_at c.args.log.now c.loop-i.i _ c.loop-i-test.true ∙ w.if-e-q.true) w.in-ok-b.b (k.0 ∙ ap said s) w.if-visits-budget.false (subst (λ e. (said e).visits ≤ c.args.budget - (c.loop-i.visits + 1)) s k.1) (beq_other w.in-ok-b.b.truth c.args.q.want w.if-b-q.false)))
+          rw w.visits-is (walk_goes c.args.q.want c.args.q.class (body_of (nodes_of c.args.book.now) (world_of c.args.log.now) c.args.q.body (env_of (world_of c.args.log.now) c.args.slots) c.args.q.slot) (world_of c.args.log.now) c.loop-i.i c.args.budget c.loop-i.visits c.loop-i.invariant (inside c.args.log.now c.loop-i.i c.loop-i-test.true) (class_at c.args.log.now c.loop-i.i _ c.loop-i-test.true ∙ w.if-e-q.true) w.in_ok-b.b (k.0 ∙ ap said s) w.if-visits-budget.false (subst (λ e. (said e).visits ≤ c.args.budget - (c.loop-i.visits + 1)) s k.1) (beq_other w.in_ok-b.b.truth c.args.q.want w.if-b-q.false)))
       | walk-else-e-q w ↦
           rw w.visits-is (walk_skips c.args.q.want c.args.q.class (body_of (nodes_of c.args.book.now) (world_of c.args.log.now) c.args.q.body (env_of (world_of c.args.log.now) c.args.slots) c.args.q.slot) (world_of c.args.log.now) c.loop-i.i c.args.budget c.loop-i.visits c.loop-i.invariant (inside c.args.log.now c.loop-i.i c.loop-i-test.true) (λ e. w.if-e-q.false (sym (class_at c.args.log.now c.loop-i.i _ c.loop-i-test.true) ∙ e)))
     ]

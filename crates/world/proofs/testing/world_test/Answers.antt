@@ -10,12 +10,12 @@ use Rattle.world.proofs.Meanings.{truth_laws}
 use Rattle.world.proofs.Verdicts.{test_laws, answered_from}
 use Rattle.world.proofs.testing.world_test.Goals as goal
 
-pub returns-in-err-check : goal.returns-in-err-check
-returns-in-err-check c =
+pub returns-in_err-check : goal.returns-in_err-check
+returns-in_err-check c =
     let b = c.args.book.now in
-    let p = err_from_is_err_and c.from-residual.result c.from-residual.ensures.1 in
-    let k = c.in-err-check.ensures in
-    let e : c.from-residual.result ≡ Err (BadWorld k.0) = p.1 ∙ ap (λ (x : Cause). Err x) (p.2 ∙ k.1) in
+    let p = err_from_is_err_and c.from_residual.result c.from_residual.ensures.1 in
+    let k = c.in_err-check.ensures in
+    let e : c.from_residual.result ≡ Err (BadWorld k.0) = p.1 ∙ ap (λ (x : Cause). Err x) (p.2 ∙ k.1) in
     record {
       answer = rw e k.2;
       truth = truth_laws (classes_of b) (nodes_of b) b.each;
@@ -26,7 +26,7 @@ pub returns : goal.returns
 returns c =
     let b = c.args.book.now in
     record {
-      answer = answered_from (classes_of b) (nodes_of b) (world_of c.args.log.now) c.args.budget c.try-premises.result c.in-ok-check.ensures c.try-premises.ensures;
+      answer = answered_from (classes_of b) (nodes_of b) (world_of c.args.log.now) c.args.budget c.try_premises.result c.in_ok-check.ensures c.try_premises.ensures;
       truth = truth_laws (classes_of b) (nodes_of b) b.each;
       verdict = test_laws (classes_of b) (nodes_of b);
     }

@@ -7,5 +7,5 @@ pub returns : goal.returns
 returns c =
     let rows = c.args.rows.now in
     let voucher = c.args.voucher.now in
-    let h = fixed (sum_asks rows voucher) (sum_passes rows voucher) (sum_decides rows voucher) c.add-up.result c.add-up.ensures in
+    let h = fixed (sum_asks rows voucher) (sum_passes rows voucher) (sum_decides rows voucher) c.add_up.result c.add_up.ensures in
     record { yes = h.0; cause = h.1; answer = h.2; rule = h.3 }
