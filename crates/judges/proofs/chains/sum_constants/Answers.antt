@@ -8,8 +8,8 @@ use Rattle.judges.proofs.chains.sum_constants.Goals as goal
 pub loop-row-init : goal.loop-row-init
 loop-row-init c = (omega (arith, ints), omega arith)
 
-pub overflow-add-sum : goal.overflow-add-sum
-overflow-add-sum c =
+pub overflow_add-sum : goal.overflow_add-sum
+overflow_add-sum c =
     let f : SFits w64 (get_or c.args.rows.now c.loop-row.row-index no_row).constant = search rules in
     omega (arith, ints)
 

@@ -13,8 +13,8 @@ weigh_constant-sum-requires c =
     let m : k < length ns = omega arith in
     rw (to_z-of_z w32 (get_or ns k (pos 0)) f) (c.requires.small k)
 
-pub overflow-add-sum : goal.overflow-add-sum
-overflow-add-sum c =
+pub overflow_add-sum : goal.overflow_add-sum
+overflow_add-sum c =
     let few : c.loop-k.k < 32 = omega arith in
     constants_fit _ c.weigh_constant-sum.result c.loop-k.k few c.loop-k.invariant.1 c.weigh_constant-sum.ensures.size
 

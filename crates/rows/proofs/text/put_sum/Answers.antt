@@ -3,8 +3,8 @@ use Rattle.std.proofs.lemmas.Int.{to_z-of_z}
 use Rattle.rows.proofs.Written.{put_pieces}
 use Rattle.rows.proofs.text.put_sum.Goals as goal
 
-pub returns-in_ok-put_more_terms : goal.returns-in_ok-put_more_terms
-returns-in_ok-put_more_terms g c plain ok =
+pub returns-in_ok-put_more_terms-in-len1-up : goal.returns-in_ok-put_more_terms-in-len1-up
+returns-in_ok-put_more_terms-in-len1-up g c plain ok =
     let some : 0 < length c.args.terms.now = search rules in
     let first = c.in_ok-put_term.ensures plain (refl {a = true}) in
     let more = c.in_ok-put_more_terms.ensures first.plain (refl {a = true}) in

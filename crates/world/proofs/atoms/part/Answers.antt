@@ -5,8 +5,8 @@ use Rattle.world.proofs.Slots.{slot_reading}
 use Rattle.world.proofs.Sizes.{product_fits, product_is, product_size}
 use Rattle.world.proofs.atoms.slice-bounds.Goals as goal
 
-pub overflow-mul-result : goal.overflow-mul-result
-overflow-mul-result c =
+pub overflow_mul-result : goal.overflow_mul-result
+overflow_mul-result c =
     let t = c.args.t.now in
     let k = get_or c.args.slots.now t.slot 0 in
     product_fits t.coefficient c.from.result (get_or (values_at (world_of c.args.log.now) k) t.attribute (pos 0)) c.value-x.result c.requires.term.coefficient (c.requires.calm k t.attribute) c.from.ensures c.value-x.ensures

@@ -16,8 +16,8 @@ loop-i-init c =
     let e = start_is k c.from-sum.result f c.from-sum.ensures in
     (rw e (swapped k (sum (env_of (world_of c.args.log.now) c.args.slots.now) (terms_of c.args.a.now))), rw e (start_size k f))
 
-pub overflow-add-sum : goal.overflow-add-sum
-overflow-add-sum c =
+pub overflow_add-sum : goal.overflow_add-sum
+overflow_add-sum c =
     let few : c.loop-i.i < 8 = omega (arith, c.requires.atom.few) in
     rw c.loop-i.sum_is (sum_fits c.loop-i.sum c.part-sum.result c.loop-i.i (rw c.loop-i.sum_is at c.loop-i.invariant.1) c.part-sum.ensures.size few)
 

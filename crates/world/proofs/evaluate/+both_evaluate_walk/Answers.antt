@@ -85,17 +85,17 @@ walk-loop-i-init t c = record { within = zero-le; same = refl; count = omega ari
 pub walk-returns-then-visits-budget : goal.walk-returns-then-visits-budget
 walk-returns-then-visits-budget t c = (refl, walk_spent c.args.q.want c.args.q.class (body_of (nodes_of c.args.book.now) (world_of c.args.log.now) c.args.q.body (env_of (world_of c.args.log.now) c.args.slots) c.args.q.slot) (world_of c.args.log.now) c.loop-i.i c.args.budget c.loop-i.visits c.loop-i.invariant (inside c.args.log.now c.loop-i.i c.loop-i-test.true) (class_at c.args.log.now c.loop-i.i _ c.loop-i-test.true ∙ c.if-e-q.true) c.if-visits-budget.true)
 
-pub walk-overflow-add-visits : goal.walk-overflow-add-visits
-walk-overflow-add-visits t c = omega (arith, c.if-visits-budget.false, c.loop-i.invariant.within)
+pub walk-overflow_add-visits : goal.walk-overflow_add-visits
+walk-overflow_add-visits t c = omega (arith, c.if-visits-budget.false, c.loop-i.invariant.within)
 
-pub walk-overflow-cast-inner : goal.walk-overflow-cast-inner
-walk-overflow-cast-inner t c = omega (arith, c.requires.body.few, length_world c.args.log.now)
+pub walk-overflow_cast-inner : goal.walk-overflow_cast-inner
+walk-overflow_cast-inner t c = omega (arith, c.requires.body.few, length_world c.args.log.now)
 
-pub walk-overflow-add-inner : goal.walk-overflow-add-inner
-walk-overflow-add-inner t c = omega (arith, c.requires.body.few, length_world c.args.log.now)
+pub walk-overflow_add-inner : goal.walk-overflow_add-inner
+walk-overflow_add-inner t c = omega (arith, c.requires.body.few, length_world c.args.log.now)
 
-pub walk-overflow-sub-budget : goal.walk-overflow-sub-budget
-walk-overflow-sub-budget t c = omega (arith, c.if-visits-budget.false, c.loop-i.invariant.within)
+pub walk-overflow_sub-budget : goal.walk-overflow_sub-budget
+walk-overflow_sub-budget t c = omega (arith, c.if-visits-budget.false, c.loop-i.invariant.within)
 
 pub walk-evaluate-requires : goal.walk-evaluate-requires
 walk-evaluate-requires t c = (omega (arith, c.decreases), c.requires.body)
@@ -109,8 +109,8 @@ walk-returns-in_err-b t c =
     let over = walk_over c.args.q.want c.args.q.class (body_of (nodes_of c.args.book.now) (world_of c.args.log.now) c.args.q.body (env_of (world_of c.args.log.now) c.args.slots) c.args.q.slot) (world_of c.args.log.now) c.loop-i.i c.args.budget c.loop-i.visits c.loop-i.invariant (inside c.args.log.now c.loop-i.i c.loop-i-test.true) (class_at c.args.log.now c.loop-i.i _ c.loop-i-test.true ∙ c.if-e-q.true) (subst (λ e. c.args.budget - (c.loop-i.visits + 1) < (said e).visits) s k.1) in
     rw p.1 (p.2 ∙ k.0, over)
 
-pub walk-overflow-add-visits-then-e-q : goal.walk-overflow-add-visits-then-e-q
-walk-overflow-add-visits-then-e-q t c =
+pub walk-overflow_add-visits-then-e-q : goal.walk-overflow_add-visits-then-e-q
+walk-overflow_add-visits-then-e-q t c =
     let k = c.in_ok-b.ensures in
     omega (arith, k.1, ap (λ (o : Evaluation). o.visits) k.0, c.if-visits-budget.false, c.loop-i.invariant.within)
 

@@ -14,11 +14,11 @@ use Rattle.world.proofs.premises.try_premises.Goals.{then-nodes-i+in_ok-seen+els
 pub loop-i-init : goal.loop-i-init
 loop-i-init c = gone_none (nodes_of c.args.book.now) (world_of c.args.log.now) c.args.budget
 
-pub overflow-cast-n : goal.overflow-cast-n
-overflow-cast-n c = omega (arith, (inside (nodes_of c.args.book.now) c.nodes-nodes.result.now c.nodes-nodes.ensures c.loop-i.i c.loop-i-test.true), heads_few (classes_of c.args.book.now) (nodes_of c.args.book.now) c.args.book.now.heads)
+pub overflow_cast-n : goal.overflow_cast-n
+overflow_cast-n c = omega (arith, (inside (nodes_of c.args.book.now) c.nodes-nodes.result.now c.nodes-nodes.ensures c.loop-i.i c.loop-i-test.true), heads_few (classes_of c.args.book.now) (nodes_of c.args.book.now) c.args.book.now.heads)
 
-pub overflow-add-n : goal.overflow-add-n
-overflow-add-n c = omega (arith, (inside (nodes_of c.args.book.now) c.nodes-nodes.result.now c.nodes-nodes.ensures c.loop-i.i c.loop-i-test.true), heads_few (classes_of c.args.book.now) (nodes_of c.args.book.now) c.args.book.now.heads)
+pub overflow_add-n : goal.overflow_add-n
+overflow_add-n c = omega (arith, (inside (nodes_of c.args.book.now) c.nodes-nodes.result.now c.nodes-nodes.ensures c.loop-i.i c.loop-i-test.true), heads_few (classes_of c.args.book.now) (nodes_of c.args.book.now) c.args.book.now.heads)
 
 pub evaluate-requires : goal.evaluate-requires
 evaluate-requires c = record {

@@ -4,8 +4,8 @@ use Rattle.judges.specs.Sizes.{total_fits, total_is}
 use Rattle.judges.proofs.Tables.{no_total, within_held, add_found, add_new}
 use Rattle.judges.proofs.combine.Table.add.Goals as goal
 
-pub overflow-add-self : goal.overflow-add-self
-overflow-add-self c =
+pub overflow_add-self : goal.overflow_add-self
+overflow_add-self c =
     let table = c.args.self.now in
     let r = c.place-i.result in
     let full : table.count ≤ length table.entries = search rules in
