@@ -3,7 +3,7 @@ use Rattle.world.specs.Worlds.{world_of}
 use Rattle.world.specs.Inner.{values_at}
 use Rattle.world.proofs.Slots.{slot_reading}
 use Rattle.world.proofs.Sizes.{product_fits, product_is, product_size}
-use Rattle.world.proofs.atoms.slice-bounds.Goals as goal
+use Rattle.world.proofs.atoms.part.Goals as goal
 
 pub overflow_mul-result : goal.overflow_mul-result
 overflow_mul-result c =

@@ -27,8 +27,8 @@ returns-in-1 g c =
     let h = says_second (g.F.Judge.admits p.first) (g.S.Judge.admits p.second) (g.F.Judge.gives p.first) (g.S.Judge.gives p.second) c.args.rows.now v c.if-rows-gt-MOST_ROWS.false some is c.judge-in-1.result c.judge-in-1.ensures.yes c.judge-in-1.ensures.cause in
     record { yes = h.0; cause = h.1; nested = nested_fixed }
 
-pub returns-in-default : goal.returns-in-default
-returns-in-default g c =
+pub returns-in_default : goal.returns-in_default
+returns-in_default g c =
     let p = c.args.self.now in
     let v = c.args.voucher.now in
     let a : 0 < length v → get_or v 0 (pos 0) ≡ pos 0 → ⊥ = search rules in
@@ -36,8 +36,8 @@ returns-in-default g c =
     let h = says_none (g.F.Judge.admits p.first) (g.S.Judge.admits p.second) (g.F.Judge.gives p.first) (g.S.Judge.gives p.second) c.args.rows.now v c.if-rows-gt-MOST_ROWS.false a b in
     record { yes = h.0; cause = h.1; nested = nested_fixed }
 
-pub returns-in-default-pick : goal.returns-in-default-pick
-returns-in-default-pick g c =
+pub returns-in_default-pick : goal.returns-in_default-pick
+returns-in_default-pick g c =
     let p = c.args.self.now in
     let v = c.args.voucher.now in
     let a : 0 < length v → get_or v 0 (pos 0) ≡ pos 0 → ⊥ = search rules in
