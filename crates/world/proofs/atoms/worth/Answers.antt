@@ -19,7 +19,7 @@ loop-i-init c =
 pub overflow_add-sum : goal.overflow_add-sum
 overflow_add-sum c =
     let few : c.loop-i.i < 8 = omega (arith, c.requires.atom.few) in
-    rw c.loop-i.sum_is (sum_fits c.loop-i.sum c.part-sum.result c.loop-i.i (rw c.loop-i.sum_is at c.loop-i.invariant.1) c.part-sum.ensures.size few)
+    rw c.loop-i.sum-is (sum_fits c.loop-i.sum c.part-sum.result c.loop-i.i (rw c.loop-i.sum-is at c.loop-i.invariant.1) c.part-sum.ensures.size few)
 
 pub loop-i-preserved : goal.loop-i-preserved
 loop-i-preserved c =
@@ -29,17 +29,17 @@ loop-i-preserved c =
     let p = c.part-sum.result in
     let i = c.loop-i.i in
     let few : i < 8 = omega (arith, c.requires.atom.few) in
-    let size = rw c.loop-i.sum_is at c.loop-i.invariant.1 in
+    let size = rw c.loop-i.sum-is at c.loop-i.invariant.1 in
     let e = sum_is s p i size c.part-sum.ensures.size few in
     let place : i < length a.terms = search rules in
     let here : i < length (terms_of a) = simp length-take (omega (arith, c.loop-i-test.true)) in
     let at : get_or (terms_of a) i no_term ≡ get_or a.terms i no_term = get_or-take a.count a.terms i no_term c.loop-i-test.true in
     let is : p ≡ product env (get_or (terms_of a) i no_term) = c.part-sum.ensures.value ∙ ap (product env) (sym at) in
-    let more = sum_more env (terms_of a) i s (worth env a) (rw c.loop-i.sum_is at c.loop-i.invariant.0) here in
-    (rw (c.loop-i.sum_is, e, is) more, rw (c.loop-i.sum_is, e) (sum_size s p i size c.part-sum.ensures.size few))
+    let more = sum_more env (terms_of a) i s (worth env a) (rw c.loop-i.sum-is at c.loop-i.invariant.0) here in
+    (rw (c.loop-i.sum-is, e, is) more, rw (c.loop-i.sum-is, e) (sum_size s p i size c.part-sum.ensures.size few))
 
 pub returns : goal.returns
 returns c =
     let a = c.args.a.now in
     let env = env_of (world_of c.args.log.now) c.args.slots.now in
-    c.loop-i.sum_is ∙ sum_all env (terms_of a) c.loop-i.i c.loop-i.sum (worth env a) (rw c.loop-i.sum_is at c.loop-i.invariant.0) (simp length-take (omega arith))
+    c.loop-i.sum-is ∙ sum_all env (terms_of a) c.loop-i.i c.loop-i.sum (worth env a) (rw c.loop-i.sum-is at c.loop-i.invariant.0) (simp length-take (omega arith))

@@ -45,14 +45,14 @@ evaluate-walk-requires-in-Every t c =
 pub evaluate-returns-in-AtLeast : goal.evaluate-returns-in-AtLeast
 evaluate-returns-in-AtLeast t c =
     let e = arm_says c.args.book.now (world_of c.args.log.now) c.args.n c.requires c.nodes.result.now c.nodes.ensures (env_of (world_of c.args.log.now) c.args.slots) c.in-AtLeast.is in
-    let f : SFits w64 c.worth.result = record { sfits = c.worth.type-inv } in
+    let f : SFits w64 c.worth.result = record { sfits = c.worth.type_inv } in
     let v : (z : ℤ) → Evaluation = λ z. record { truth = le_z (pos 0) z; visits = 0 } in
     rw e (ap v (to_z-of_z w64 c.worth.result f ∙ c.worth.ensures), zero-le)
 
 pub evaluate-returns-in-Equal : goal.evaluate-returns-in-Equal
 evaluate-returns-in-Equal t c =
     let e = arm_says c.args.book.now (world_of c.args.log.now) c.args.n c.requires c.nodes.result.now c.nodes.ensures (env_of (world_of c.args.log.now) c.args.slots) c.in-Equal.is in
-    let z = zero_bits c.worth-in-Equal.result c.worth-in-Equal.type-inv ∙ ap is_zero c.worth-in-Equal.ensures in
+    let z = zero_bits c.worth-in-Equal.result c.worth-in-Equal.type_inv ∙ ap is_zero c.worth-in-Equal.ensures in
     rw e (λ i. record { truth = z i; visits = 0 }, zero-le)
 
 pub evaluate-returns-in-And : goal.evaluate-returns-in-And
