@@ -1,7 +1,9 @@
 // Atoms: coefficients, constants, counts of terms, slots and attributes.
 use crate::shared::*;
 use book::{Atom, Formula};
+use std::fmt;
 use std::process::Abort;
+use std::test::Fail;
 
 const ONE_SLOT: [u32; 6] = [1, 0, 0, 0, 0, 0];
 
@@ -12,13 +14,14 @@ const SIX_SLOTS: [u32; 6] = [1, 2, 1, 2, 1, 2];
 // The atom under "0 or more" and under "exactly 0".
 fn each_way(
     rt: &(impl Abort + AllocGlobal),
+    name: &impl fmt::Display,
     scope: [u32; 6],
     atom: Atom,
     fits: bool,
 ) -> Result<(), Fail> {
     let nodes = [premise(NO_SCOPE), plain(NO_SCOPE)];
     for formula in [Formula::AtLeast(atom), Formula::Equal(atom)] {
-        placed(rt, rt.alloc(), &nodes, 2, node(scope, formula), fits)?;
+        placed(rt, name, rt.alloc(), &nodes, 2, node(scope, formula), fits)?;
     }
     Ok(())
 }
@@ -36,7 +39,13 @@ fn coefficients(rt: HostRuntime) -> Result<(), Fail> {
     ];
     for (coefficient, fits) in table {
         let atom = Atom::new(&[term(coefficient, 0, 0)], 0);
-        each_way(&rt, ONE_SLOT, atom, fits).note(format_args!("coefficient {coefficient}"))?;
+        each_way(
+            &rt,
+            &format_args!("coefficient {coefficient}"),
+            ONE_SLOT,
+            atom,
+            fits,
+        )?;
     }
     Ok(())
 }
@@ -51,7 +60,13 @@ fn constants(rt: HostRuntime) -> Result<(), Fail> {
     ];
     for (constant, fits) in table {
         let atom = Atom::new(&[], constant);
-        each_way(&rt, NO_SCOPE, atom, fits).note(format_args!("constant {constant}"))?;
+        each_way(
+            &rt,
+            &format_args!("constant {constant}"),
+            NO_SCOPE,
+            atom,
+            fits,
+        )?;
     }
     Ok(())
 }
@@ -61,7 +76,7 @@ fn counts_of_terms(rt: HostRuntime) -> Result<(), Fail> {
     for (count, fits) in [(0, true), (1, true), (8, true), (9, false)] {
         let terms = several(rt.alloc(), term(1, 0, 0), count)?;
         let atom = Atom::new(terms.as_slice(), 0);
-        each_way(&rt, ONE_SLOT, atom, fits).note(format_args!("{count} terms"))?;
+        each_way(&rt, &format_args!("{count} terms"), ONE_SLOT, atom, fits)?;
     }
     Ok(())
 }
@@ -85,7 +100,13 @@ fn places_of_terms(rt: HostRuntime) -> Result<(), Fail> {
             count,
             constant: 0,
         };
-        each_way(&rt, ONE_SLOT, atom, fits).note(format_args!("{count} counted terms"))?;
+        each_way(
+            &rt,
+            &format_args!("{count} counted terms"),
+            ONE_SLOT,
+            atom,
+            fits,
+        )?;
     }
     Ok(())
 }
@@ -105,7 +126,13 @@ fn slots(rt: HostRuntime) -> Result<(), Fail> {
     ];
     for (scope, slot, fits) in table {
         let atom = Atom::new(&[term(1, slot, 0)], 0);
-        each_way(&rt, scope, atom, fits).note(format_args!("slot {slot} of {scope:?}"))?;
+        each_way(
+            &rt,
+            &format_args!("slot {slot} of {scope:?}"),
+            scope,
+            atom,
+            fits,
+        )?;
     }
     Ok(())
 }
@@ -124,9 +151,13 @@ fn attributes(rt: HostRuntime) -> Result<(), Fail> {
     ];
     for (slot, attribute, fits) in table {
         let atom = Atom::new(&[term(1, slot, attribute)], 0);
-        each_way(&rt, TWO_SLOTS, atom, fits).note(format_args!(
-            "attribute {attribute} of slot {slot}"
-        ))?;
+        each_way(
+            &rt,
+            &format_args!("attribute {attribute} of slot {slot}"),
+            TWO_SLOTS,
+            atom,
+            fits,
+        )?;
     }
     Ok(())
 }

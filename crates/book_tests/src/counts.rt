@@ -1,6 +1,7 @@
 // Counts and premise marks. Where one is wrong, the detail is 0.
 use crate::shared::*;
 use book::Class;
+use std::test::Fail;
 
 const ONE_SLOT: [u32; 6] = [1, 0, 0, 0, 0, 0];
 

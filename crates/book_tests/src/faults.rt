@@ -1,6 +1,7 @@
 // Books with two faults: which of them is named.
 use crate::shared::*;
 use book::{Class, Formula, Node};
+use std::test::Fail;
 
 const SCOPE: [u32; 6] = [1, 0, 0, 0, 0, 0];
 

@@ -1,7 +1,9 @@
 // And, or: two lower nodes of the same scope.
 use crate::shared::*;
 use book::{Formula, Node};
+use std::fmt;
 use std::process::Abort;
+use std::test::Fail;
 
 const SCOPE: [u32; 6] = [1, 0, 0, 0, 0, 0];
 
@@ -18,12 +20,21 @@ fn others() -> [Node; 5] {
 
 fn each_way(
     rt: &(impl Abort + AllocGlobal),
+    name: &impl fmt::Display,
     left: u32,
     right: u32,
     fits: bool,
 ) -> Result<(), Fail> {
     for formula in [Formula::And { left, right }, Formula::Or { left, right }] {
-        placed(rt, rt.alloc(), &others(), 4, node(SCOPE, formula), fits)?;
+        placed(
+            rt,
+            name,
+            rt.alloc(),
+            &others(),
+            4,
+            node(SCOPE, formula),
+            fits,
+        )?;
     }
     Ok(())
 }
@@ -31,7 +42,13 @@ fn each_way(
 #[test]
 fn two_children(rt: HostRuntime) -> Result<(), Fail> {
     for (left, right) in [(2, 3), (3, 2), (2, 2), (3, 3)] {
-        each_way(&rt, left, right, true).note(format_args!("children {left} and {right}"))?;
+        each_way(
+            &rt,
+            &format_args!("children {left} and {right}"),
+            left,
+            right,
+            true,
+        )?;
     }
     Ok(())
 }
@@ -48,8 +65,8 @@ fn one_bad_child(rt: HostRuntime) -> Result<(), Fail> {
         ("the largest number", 4_294_967_295),
     ];
     for (name, child) in table {
-        each_way(&rt, child, 3, false).note("left").note(name)?;
-        each_way(&rt, 3, child, false).note("right").note(name)?;
+        each_way(&rt, &format_args!("{name}, left"), child, 3, false)?;
+        each_way(&rt, &format_args!("{name}, right"), 3, child, false)?;
     }
     Ok(())
 }

@@ -1,6 +1,7 @@
 // What was handed in is handed back as it was.
 use crate::shared::*;
 use book::{Atom, Book, Formula};
+use std::test::Fail;
 
 fn sample(rt: &HostRuntime) -> Result<Book, Fail> {
     let atom = Atom::new(&[term(-5, 0, 7)], 9);

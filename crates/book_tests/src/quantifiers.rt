@@ -2,6 +2,7 @@
 use crate::shared::*;
 use book::{Formula, Node};
 use std::process::Abort;
+use std::test::Fail;
 
 const ONE: [u32; 6] = [1, 0, 0, 0, 0, 0];
 
@@ -56,13 +57,13 @@ fn each(rt: &(impl Abort + AllocGlobal), table: &[Case]) -> Result<(), Fail> {
         ] {
             placed(
                 rt,
+                &case.name,
                 rt.alloc(),
                 &nodes,
                 6,
                 node(case.scope, formula),
                 case.fits,
-            )
-            .note(case.name)?;
+            )?;
         }
     }
     Ok(())

@@ -1,6 +1,7 @@
 // Scopes: used slots first, each with one of the two classes.
 use crate::shared::*;
 use std::process::Abort;
+use std::test::Fail;
 
 #[derive(Drop)]
 struct Case {
@@ -16,7 +17,15 @@ fn row(name: &'static str, slots: [u32; 6], fits: bool) -> Case {
 fn each(rt: &(impl Abort + AllocGlobal), table: &[Case]) -> Result<(), Fail> {
     let nodes = [premise(NO_SCOPE), plain(NO_SCOPE)];
     for case in table {
-        placed(rt, rt.alloc(), &nodes, 2, plain(case.slots), case.fits).note(case.name)?;
+        placed(
+            rt,
+            &case.name,
+            rt.alloc(),
+            &nodes,
+            2,
+            plain(case.slots),
+            case.fits,
+        )?;
     }
     Ok(())
 }

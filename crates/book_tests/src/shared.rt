@@ -3,6 +3,7 @@ ghost use Rattle.std.specs.Prelude.{◌≤◌, length};
 
 use book::{Atom, Book, Class, Formula, Node, Term};
 use std::alloc::{AllocError, Global};
+use std::fmt;
 use std::process::Abort;
 use std::test::Fail;
 
@@ -70,6 +71,7 @@ pub fn fault(
 // The other nodes keep every rule, and this one stands in place of node n.
 pub fn placed(
     rt: &impl Abort,
+    name: &impl fmt::Display,
     heap: Global,
     nodes: &[Node],
     n: u32,
@@ -82,7 +84,11 @@ pub fn placed(
     let mut all = Vec::from_slice(heap, nodes)?;
     all[n as usize - 1] = node;
     let expected = if fits { None } else { Some(n) };
-    assert_eq!(rt; fault(rt, heap, &CLASSES, all.as_slice())?, expected);
+    assert_eq!(rt;
+        fault(rt, heap, &CLASSES, all.as_slice())?,
+        expected,
+        "{name}"
+    );
     Ok(())
 }
 

@@ -2,6 +2,7 @@
 use crate::shared::*;
 use judges::Chain;
 use rows::{Relation, Term, Unknown};
+use std::test::Fail;
 
 // A link in short: the unknown with 1, the one with -1, the constant, and whether the one with -1 stands first.
 type Link = (Unknown, Unknown, i64, bool);
@@ -47,7 +48,7 @@ fn rings(rt: HostRuntime) -> Result<(), Fail> {
             };
         }
         let count = links.len().min(3);
-        answers(&rt, &Chain, &rows[0..count], &[], expected).note(name)?;
+        answers(&rt, &name, &Chain, &rows[0..count], &[], expected)?;
     }
     Ok(())
 }
@@ -84,9 +85,9 @@ const SHAPES: [(&str, Relation, [Term; 3], usize); 9] = [
 fn shapes(rt: HostRuntime) -> Result<(), Fail> {
     for (name, relation, terms, count) in SHAPES {
         let rows = [link(U, U, -1), row(relation, terms, count, -1)];
-        answers(&rt, &Chain, &rows[1..2], &[], 3).note(name)?;
-        answers(&rt, &Chain, &rows, &[], 3).note(name)?;
-        answers(&rt, &Chain, &rows[1..2], &[0], 2).note(name)?;
+        answers(&rt, &name, &Chain, &rows[1..2], &[], 3)?;
+        answers(&rt, &name, &Chain, &rows, &[], 3)?;
+        answers(&rt, &name, &Chain, &rows[1..2], &[0], 2)?;
     }
     Ok(())
 }

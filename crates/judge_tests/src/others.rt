@@ -4,6 +4,7 @@ use crate::shared::*;
 use judges::{Chain, Judge, Pair, Residue, Sum, referee};
 use rows::{Relation, Row, Unknown};
 use std::process::Abort;
+use std::test::Fail;
 
 fn one(coefficient: i32, unknown: Unknown, constant: i64) -> Row {
     row(

@@ -3,6 +3,7 @@ use crate::outside::*;
 use crate::shared::*;
 use judges::{Chain, Pair, Residue, Sum};
 use rows::Relation;
+use std::test::Fail;
 
 type Nested = Pair<Sum, Pair<Chain, Residue>>;
 

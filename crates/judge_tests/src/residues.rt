@@ -1,6 +1,7 @@
 // The judge Residue.
 use crate::shared::*;
 use judges::Residue;
+use std::test::Fail;
 
 #[test]
 fn vouchers(rt: HostRuntime) -> Result<(), Fail> {
@@ -57,7 +58,7 @@ fn remainders(rt: HostRuntime) -> Result<(), Fail> {
             *row = equation(*a, *b, *constant);
         }
         let count = equations.len().min(2);
-        answers(&rt, &Residue, &rows[0..count], voucher, expected).note(name)?;
+        answers(&rt, &name, &Residue, &rows[0..count], voucher, expected)?;
     }
     Ok(())
 }

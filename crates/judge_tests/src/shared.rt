@@ -1,6 +1,7 @@
 // What the tests share: unknowns, rows in short, and tables of vouchers with their answers.
 use judges::{Judge, referee};
 use rows::{JudgeCause, Relation, Row, Term, Unknown};
+use std::fmt;
 use std::process::Abort;
 use std::test::Fail;
 
@@ -110,16 +111,17 @@ pub fn number(answer: Result<(), JudgeCause>) -> u32 {
 // The judge itself and the call that stands before every judge answer alike.
 pub fn answers<J: Judge>(
     rt: &impl Abort,
+    name: &impl fmt::Display,
     judge: &J,
     rows: &[Row],
     voucher: &[i32],
     expected: u32,
 ) -> Result<(), Fail> {
-    assert_eq!(rt; number(judge.judge(rows, voucher)), expected);
+    assert_eq!(rt; number(judge.judge(rows, voucher)), expected, "{name}");
     assert_eq!(rt;
         number(referee(judge, rows, voucher)),
         expected,
-        "by the referee"
+        "{name}, by the referee"
     );
     Ok(())
 }
@@ -129,7 +131,7 @@ pub type Case<'a> = (&'static str, &'a [Row], &'a [i32], u32);
 
 pub fn each<J: Judge>(rt: &impl Abort, judge: &J, table: &[Case]) -> Result<(), Fail> {
     for (name, rows, voucher, expected) in table {
-        answers(rt, judge, rows, voucher, *expected).note(*name)?;
+        answers(rt, name, judge, rows, voucher, *expected)?;
     }
     Ok(())
 }
@@ -142,7 +144,14 @@ pub fn each_voucher<J: Judge>(
     table: &[(&'static [i32], u32)],
 ) -> Result<(), Fail> {
     for (voucher, expected) in table {
-        answers(rt, judge, rows, voucher, *expected).note(format_args!("voucher {voucher:?}"))?;
+        answers(
+            rt,
+            &format_args!("voucher {voucher:?}"),
+            judge,
+            rows,
+            voucher,
+            *expected,
+        )?;
     }
     Ok(())
 }

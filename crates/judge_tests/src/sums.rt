@@ -2,6 +2,7 @@
 use crate::shared::*;
 use judges::Sum;
 use rows::{Relation, Row};
+use std::test::Fail;
 
 #[test]
 fn vouchers(rt: HostRuntime) -> Result<(), Fail> {
@@ -107,6 +108,6 @@ fn as_many_unknowns_as_there_can_be(rt: HostRuntime) -> Result<(), Fail> {
         }
         r.count = 8;
     }
-    answers(&rt, &Sum, &rows, &[1; 32], 4)?;
-    answers(&rt, &Sum, &rows, &[0; 32], 5)
+    answers(&rt, &"each taken once", &Sum, &rows, &[1; 32], 4)?;
+    answers(&rt, &"none taken", &Sum, &rows, &[0; 32], 5)
 }

@@ -1,6 +1,7 @@
 // Rows in ordinary notation, causes as text, and rows of eight and nine terms.
 use crate::shared::*;
 use rows::{JudgeCause, Relation, Row};
+use std::test::Fail;
 
 #[test]
 fn rows_as_text(rt: HostRuntime) -> Result<(), Fail> {
@@ -23,7 +24,7 @@ fn rows_as_text(rt: HostRuntime) -> Result<(), Fail> {
         ),
     ];
     for (row, text) in table {
-        assert_eq!(rt; row.to_string(rt.alloc())?, text);
+        assert_eq!(rt; row.to_string(rt.alloc())?.as_str(), text);
     }
     Ok(())
 }
@@ -47,7 +48,7 @@ fn causes(rt: HostRuntime) -> Result<(), Fail> {
     ];
     for (cause, number, text) in table {
         assert_eq!(rt; cause.number(), number);
-        assert_eq!(rt; cause.to_string(rt.alloc())?, text);
+        assert_eq!(rt; cause.to_string(rt.alloc())?.as_str(), text);
     }
     Ok(())
 }

@@ -1,6 +1,6 @@
 -- The judge Chain: differences in a ring, whose constants add up to a negative one.
 use Rattle.std.specs.Prelude.{◌≡◌, ℕ, ◌≤◌, Bool, true, false, cond, ◌&&◌, ◌||◌, ◌⊎◌, List, [], ◌∷◌, length, ℤ, pos, negsuc, ◌+ℤ◌, ◌≤ℤ◌, ◌==◌, int_le, nat_le, slice_index_or}
-use Rattle.std.specs.List.{AllByRecursion as All}
+use Rattle.std.specs.List.{AllByRecursion}
 use Rattle.rows.specs.Making.{no_term}
 use Rattle.rows.specs.Meaning.{terms_of}
 use Rattle.rows.specs.declared.cause.JudgeCause.{JudgeCause}
@@ -76,7 +76,7 @@ constants_of (r ∷ rs) = r.constant +ℤ constants_of rs
 abbrev pub chain_asks : List Row → List ℤ → JudgeCause → Type 0
 chain_asks rows voucher TooManyRows = length rows ≤ chain_rows
 chain_asks rows voucher BadVoucher = length voucher ≡ 0
-chain_asks rows voucher BadShape = All IsDifference rows
+chain_asks rows voucher BadShape = AllByRecursion IsDifference rows
 chain_asks rows voucher UnknownsLeft = Leads (home_of rows) rows
 chain_asks rows voucher NoConflict = constants_of rows ≤ℤ negsuc 0
 

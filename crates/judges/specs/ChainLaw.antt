@@ -6,7 +6,7 @@ use Rattle.std.proofs.lemmas.Int.{ints}
 use Rattle.std.proofs.lemmas.Bool.{both_ways, and_parts, or_cases, eqb-true}
 use Rattle.std.proofs.lemmas.Bool.Decides.{Decides-eqb, Decides-and}
 use Rattle.std.proofs.ByRecursion.{Decides-by_and}
-use Rattle.std.specs.List.{AllByRecursion as All}
+use Rattle.std.specs.List.{AllByRecursion}
 use Rattle.rows.specs.Making.{no_term}
 use Rattle.rows.specs.Meaning.{Valuation, terms_of, sum_of, value, Related, AllHold, Impossible}
 use Rattle.rows.specs.declared.cause.JudgeCause.{JudgeCause}
@@ -98,7 +98,7 @@ module _ (v : Valuation) where
   evens_out ts (u, w, inr e) = subst Evens-out (sym e) (omega (arith, ints, one_times (v u), minus_one_times (v w)))
 
   -- from the unknown where a way ends back to the one where it begins, there is no more than the constants
-  way : (home : Unknown) (rows : List Row) → All IsDifference rows → Leads home rows → AllHold v rows → v home ≤ℤ (v (next_plus home rows) +ℤ constants_of rows)
+  way : (home : Unknown) (rows : List Row) → AllByRecursion IsDifference rows → Leads home rows → AllHold v rows → v home ≤ℤ (v (next_plus home rows) +ℤ constants_of rows)
   way home [] d l h = omega (arith, ints)
   way home (r ∷ rs) d l h =
       let s = evens_out (terms_of r) d.0.1 in

@@ -1,6 +1,6 @@
 -- The sum of rows, each times its number.
 use Rattle.std.specs.Prelude.{◌≡◌, ℕ, Bool, true, cond, ◌&&◌, List, [], ◌∷◌, length, ℤ, pos, ◌+ℤ◌, ◌*ℤ◌, ◌≤ℤ◌, ◌==◌, int_le, unsigned_abs}
-use Rattle.std.specs.List.{AllByRecursion as All}
+use Rattle.std.specs.List.{AllByRecursion}
 use Rattle.rows.specs.Meaning.{terms_of}
 use Rattle.rows.specs.declared.row.Unknown.{Unknown}
 use Rattle.rows.specs.declared.row.Term.{Term}
@@ -56,7 +56,7 @@ all_between low high (n ∷ ns) = between low high n && all_between low high ns
 
 -- this many numbers of a voucher, each from `low` to the largest
 abbrev pub NumbersFit : ℤ → ℕ → List ℤ → Type 0
-NumbersFit low count ns = (length ns ≡ count) × All (Between low (pos largest_number)) ns
+NumbersFit low count ns = (length ns ≡ count) × AllByRecursion (Between low (pos largest_number)) ns
 
 abbrev pub numbers_fit : ℤ → ℕ → List ℤ → Bool
 numbers_fit low count ns = length ns == count && all_between low (pos largest_number) ns

@@ -1,6 +1,6 @@
 -- The judge Residue: a modulus divides all coefficients of a sum of equations, and not its constant.
 use Rattle.std.specs.Prelude.{◌≡◌, ℕ, ◌%◌, ◌≤◌, Bool, true, false, not, ◌&&◌, List, [], ◌∷◌, length, drop, ℤ, pos, ◌*ℤ◌, neg_ℤ, ◌==◌, nat_le, slice_index_or, unsigned_abs}
-use Rattle.std.specs.List.{AllByRecursion as All}
+use Rattle.std.specs.List.{AllByRecursion}
 use Rattle.rows.specs.declared.cause.JudgeCause.{JudgeCause}
 use Rattle.rows.specs.declared.cause.JudgeCause.TheVariants.{TooManyRows, BadVoucher, BadShape, UnknownsLeft, NoConflict}
 use Rattle.rows.specs.declared.row.Unknown.{Unknown}
@@ -40,7 +40,7 @@ abbrev pub residue_asks : List Row → List ℤ → JudgeCause → Type 0
 residue_asks rows voucher TooManyRows = length rows ≤ residue_rows
 residue_asks rows voucher BadVoucher =
     Between (pos 2) (pos largest_number) (modulus_of voucher) × NumbersFit (neg_ℤ (pos largest_number)) (length rows) (numbers_of voucher)
-residue_asks rows voucher BadShape = All (λ row. row.relation ≡ Equal) rows
+residue_asks rows voucher BadShape = AllByRecursion (λ row. row.relation ≡ Equal) rows
 residue_asks rows voucher UnknownsLeft = (u : Unknown) → Divides (modulus_of voucher) (coefficient_of u rows (numbers_of voucher))
 residue_asks rows voucher NoConflict = Divides (modulus_of voucher) (constant_of rows (numbers_of voucher)) → ⊥
 

@@ -6,7 +6,7 @@ use Rattle.std.proofs.lemmas.Int.{ints}
 use Rattle.std.proofs.lemmas.Bool.{and_parts}
 use Rattle.std.proofs.lemmas.Bool.Decides.{Decides-like, Decides-and, Decides-not}
 use Rattle.std.proofs.ByRecursion.{Decides-by_and}
-use Rattle.std.specs.List.{AllByRecursion as All}
+use Rattle.std.specs.List.{AllByRecursion}
 use Rattle.rows.specs.Meaning.{Valuation, sum_of, terms_of, value, Related, Holds, AllHold, Impossible}
 use Rattle.rows.specs.declared.cause.JudgeCause.{JudgeCause}
 use Rattle.rows.specs.declared.cause.JudgeCause.TheVariants.{TooManyRows, BadVoucher, BadShape, UnknownsLeft, NoConflict}
@@ -60,7 +60,7 @@ row_zero : (v : Valuation) (r : Row) → r.relation ≡ Equal → Holds v r → 
 row_zero v r is h = subst (λ q. Related q (value v r)) is h
 
 -- equations that hold add up to 0
-adds_up : (v : Valuation) (rows : List Row) (ns : List ℤ) → All (λ row. row.relation ≡ Equal) rows → AllHold v rows → weighted v rows ns +ℤ constant_of rows ns ≡ pos 0
+adds_up : (v : Valuation) (rows : List Row) (ns : List ℤ) → AllByRecursion (λ row. row.relation ≡ Equal) rows → AllHold v rows → weighted v rows ns +ℤ constant_of rows ns ≡ pos 0
 adds_up v [] ns k h = refl
 adds_up v (r ∷ rs) [] k h = refl
 adds_up v (r ∷ rs) (n ∷ ns) k h =

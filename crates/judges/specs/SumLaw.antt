@@ -5,7 +5,7 @@ use Rattle.std.proofs.Math.IntN.{*ℤ-zero, zero-*ℤ}
 use Rattle.std.proofs.lemmas.Int.{ints}
 use Rattle.std.proofs.lemmas.Bool.{eqb-true, and_parts}
 use Rattle.std.proofs.lemmas.Bool.Decides.{Decides-like}
-use Rattle.std.specs.List.{AllByRecursion as All}
+use Rattle.std.specs.List.{AllByRecursion}
 use Rattle.rows.specs.Meaning.{Valuation, sum_of, terms_of, value, Related, AllHold, Impossible}
 use Rattle.rows.specs.declared.cause.JudgeCause.{JudgeCause}
 use Rattle.rows.specs.declared.cause.JudgeCause.TheVariants.{TooManyRows, BadVoucher, BadShape, UnknownsLeft, NoConflict}
@@ -53,7 +53,7 @@ row_not_below : (rel : Relation) (n z : ℤ) → Related rel z → pos 0 ≤ℤ 
 row_not_below AtLeast n z h k = times_not_below n z k h
 row_not_below Equal n z h k = let e = ap (λ x. n *ℤ x) h ∙ *ℤ-zero n in omega (arith, ints)
 
-not_below : (v : Valuation) (rows : List Row) (ns : List ℤ) → AllHold v rows → All (Between (pos 0) (pos largest_number)) ns → pos 0 ≤ℤ (weighted v rows ns +ℤ constant_of rows ns)
+not_below : (v : Valuation) (rows : List Row) (ns : List ℤ) → AllHold v rows → AllByRecursion (Between (pos 0) (pos largest_number)) ns → pos 0 ≤ℤ (weighted v rows ns +ℤ constant_of rows ns)
 not_below v [] ns h k = omega (arith, ints)
 not_below v (r ∷ rs) [] h k = omega (arith, ints)
 not_below v (r ∷ rs) (n ∷ ns) h k =

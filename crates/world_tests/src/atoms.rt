@@ -1,7 +1,9 @@
 // Atoms: "0 or more" and "exactly 0", near 0 and at the largest sums.
 use crate::shared::*;
 use book::{Atom, Formula};
+use std::fmt;
 use std::process::Abort;
+use std::test::Fail;
 use world::{Answer, Element};
 
 const LARGEST: i32 = 2_147_483_647;
@@ -13,6 +15,7 @@ fn told(truth: bool, visits: u32) -> Answer {
 // The sum of the terms for an element of class 1 with this value, under "0 or more" and under "exactly 0".
 fn each_way(
     rt: &(impl Abort + AllocGlobal),
+    name: &impl fmt::Display,
     atom: Atom,
     value: i64,
     at_least: bool,
@@ -28,7 +31,7 @@ fn each_way(
     ] {
         let every = premise(Formula::Every { class: 1, body: 1 });
         let book = made(rt.alloc(), &[node(FIRST, formula), every])?;
-        exactly(rt, &book, &log, told(truth, 1))?;
+        exactly(rt, name, &book, &log, told(truth, 1))?;
     }
     Ok(())
 }
@@ -44,7 +47,14 @@ fn constants(rt: HostRuntime) -> Result<(), Fail> {
     ];
     for (constant, at_least, equal) in table {
         let atom = Atom::new(&[], constant);
-        each_way(&rt, atom, 7, at_least, equal).note(format_args!("constant {constant}"))?;
+        each_way(
+            &rt,
+            &format_args!("constant {constant}"),
+            atom,
+            7,
+            at_least,
+            equal,
+        )?;
     }
     Ok(())
 }
@@ -65,9 +75,14 @@ fn values(rt: HostRuntime) -> Result<(), Fail> {
     ];
     for (coefficient, constant, value, at_least, equal) in table {
         let atom = Atom::new(&[term(coefficient, 0)], constant);
-        each_way(&rt, atom, value, at_least, equal).note(format_args!(
-            "{coefficient} times {value} plus {constant}"
-        ))?;
+        each_way(
+            &rt,
+            &format_args!("{coefficient} times {value} plus {constant}"),
+            atom,
+            value,
+            at_least,
+            equal,
+        )?;
     }
     Ok(())
 }
@@ -100,9 +115,14 @@ fn the_largest_sums(rt: HostRuntime) -> Result<(), Fail> {
     ];
     for (atom, value, at_least, equal) in table {
         let constant = atom.constant;
-        each_way(&rt, atom, value, at_least, equal).note(format_args!(
-            "value {value}, constant {constant}"
-        ))?;
+        each_way(
+            &rt,
+            &format_args!("value {value}, constant {constant}"),
+            atom,
+            value,
+            at_least,
+            equal,
+        )?;
     }
     Ok(())
 }
@@ -132,9 +152,14 @@ fn sums_that_cancel(rt: HostRuntime) -> Result<(), Fail> {
     ];
     for (atom, value, at_least, equal) in table {
         let constant = atom.constant;
-        each_way(&rt, atom, value, at_least, equal).note(format_args!(
-            "value {value}, constant {constant}"
-        ))?;
+        each_way(
+            &rt,
+            &format_args!("value {value}, constant {constant}"),
+            atom,
+            value,
+            at_least,
+            equal,
+        )?;
     }
     Ok(())
 }

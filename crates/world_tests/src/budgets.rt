@@ -2,6 +2,7 @@
 use crate::example::example;
 use crate::shared::*;
 use causes::Cause;
+use std::test::Fail;
 use world::{Element, world_test};
 
 const OPENING: Element<'static> = Element {

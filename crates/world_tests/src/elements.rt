@@ -3,7 +3,9 @@ use crate::shared::*;
 use book::{Atom, Book, Class, Formula};
 use causes::Cause;
 use std::alloc::Global;
+use std::fmt;
 use std::process::Abort;
+use std::test::Fail;
 use world::{Element, LARGEST_VALUE, world_test};
 
 // One that the book takes.
@@ -26,38 +28,46 @@ fn lenient(heap: Global) -> Result<Book, Fail> {
 }
 
 // Refused as this element, or taken where there is none.
-fn refused(rt: &impl Abort, book: &Book, log: &[Element], bad: Option<u32>) -> Result<(), Fail> {
+fn refused(
+    rt: &impl Abort,
+    name: &impl fmt::Display,
+    book: &Book,
+    log: &[Element],
+    bad: Option<u32>,
+) -> Result<(), Fail> {
     let expected = match bad {
         Some(element) => Err(Cause::BadWorld { element }),
         None => Ok(yes(0)),
     };
-    assert_eq!(rt; world_test(book, log, 0), expected);
+    assert_eq!(rt; world_test(book, log, 0), expected, "{name}");
     Ok(())
 }
 
 fn placed(
     rt: &impl Abort,
+    name: &impl fmt::Display,
     book: &Book,
     log: &[Element],
     place: u32,
     fits: bool,
 ) -> Result<(), Fail> {
     let bad = if fits { None } else { Some(place) };
-    refused(rt, book, log, bad).note(format_args!("place {place}"))
+    refused(rt, &format_args!("{name}, place {place}"), book, log, bad)
 }
 
 // The element first, last and between others.
 fn each_place(
     rt: &impl Abort,
+    name: &impl fmt::Display,
     book: &Book,
     class: u32,
     values: &[i64],
     fits: bool,
 ) -> Result<(), Fail> {
     let e = Element { class, values };
-    placed(rt, book, &[e, FINE, FINE], 1, fits)?;
-    placed(rt, book, &[FINE, e, FINE], 2, fits)?;
-    placed(rt, book, &[FINE, FINE, e], 3, fits)
+    placed(rt, name, book, &[e, FINE, FINE], 1, fits)?;
+    placed(rt, name, book, &[FINE, e, FINE], 2, fits)?;
+    placed(rt, name, book, &[FINE, FINE, e], 3, fits)
 }
 
 #[test]
@@ -70,7 +80,14 @@ fn classes(rt: HostRuntime) -> Result<(), Fail> {
         (3, false),
         (4_294_967_295, false),
     ] {
-        each_place(&rt, &book, class, &[5], fits).note(format_args!("class {class}"))?;
+        each_place(
+            &rt,
+            &format_args!("class {class}"),
+            &book,
+            class,
+            &[5],
+            fits,
+        )?;
     }
     Ok(())
 }
@@ -87,8 +104,22 @@ fn counts_of_values(rt: HostRuntime) -> Result<(), Fail> {
         (4, false, false),
     ] {
         let some = values.get(0..count).unwrap_or(&[]);
-        each_place(&rt, &book, 1, some, one).note(format_args!("class 1, {count} values"))?;
-        each_place(&rt, &book, 2, some, three).note(format_args!("class 2, {count} values"))?;
+        each_place(
+            &rt,
+            &format_args!("class 1, {count} values"),
+            &book,
+            1,
+            some,
+            one,
+        )?;
+        each_place(
+            &rt,
+            &format_args!("class 2, {count} values"),
+            &book,
+            2,
+            some,
+            three,
+        )?;
     }
     Ok(())
 }
@@ -106,8 +137,22 @@ fn sizes_of_values(rt: HostRuntime) -> Result<(), Fail> {
         (i64::MIN, false),
     ];
     for (v, fits) in table {
-        each_place(&rt, &book, 2, &[v, 0, 0], fits).note(format_args!("first value {v}"))?;
-        each_place(&rt, &book, 2, &[0, 0, v], fits).note(format_args!("last value {v}"))?;
+        each_place(
+            &rt,
+            &format_args!("first value {v}"),
+            &book,
+            2,
+            &[v, 0, 0],
+            fits,
+        )?;
+        each_place(
+            &rt,
+            &format_args!("last value {v}"),
+            &book,
+            2,
+            &[0, 0, v],
+            fits,
+        )?;
     }
     Ok(())
 }
@@ -131,7 +176,13 @@ fn the_first_bad_element(rt: HostRuntime) -> Result<(), Fail> {
     ];
     for (pairs, bad) in table {
         let log = elements(rt.alloc(), &pairs)?;
-        refused(&rt, &book, log.as_slice(), bad).note(format_args!("bad: {bad:?}"))?;
+        refused(
+            &rt,
+            &format_args!("bad: {bad:?}"),
+            &book,
+            log.as_slice(),
+            bad,
+        )?;
     }
     Ok(())
 }
@@ -141,14 +192,14 @@ fn counts_of_elements(rt: HostRuntime) -> Result<(), Fail> {
     let book = lenient(rt.alloc())?;
     let mut most = [FINE; 256];
     let mut more = [FINE; 257];
-    refused(&rt, &book, &most, None).note("256")?;
-    refused(&rt, &book, &more, Some(0)).note("257")?;
+    refused(&rt, &"256", &book, &most, None)?;
+    refused(&rt, &"257", &book, &more, Some(0))?;
     most[255] = BAD;
     more[256] = BAD;
-    refused(&rt, &book, &most, Some(256)).note("256, the last one bad")?;
-    refused(&rt, &book, &more, Some(0)).note("257, the last one bad")?;
+    refused(&rt, &"256, the last one bad", &book, &most, Some(256))?;
+    refused(&rt, &"257, the last one bad", &book, &more, Some(0))?;
     most[0] = BAD;
     more[0] = BAD;
-    refused(&rt, &book, &most, Some(1)).note("256, the first one bad")?;
-    refused(&rt, &book, &more, Some(0)).note("257, the first one bad")
+    refused(&rt, &"256, the first one bad", &book, &most, Some(1))?;
+    refused(&rt, &"257, the first one bad", &book, &more, Some(0))
 }

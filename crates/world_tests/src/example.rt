@@ -4,6 +4,7 @@
 use crate::shared::*;
 use book::{Atom, Book, Formula};
 use std::alloc::Global;
+use std::test::Fail;
 
 const BOTH: [u32; 6] = [1, 2, 0, 0, 0, 0];
 
@@ -34,7 +35,7 @@ const SMALL_LOGS_ROWS: &[Row] = &[
 
 #[test]
 fn small_logs(rt: HostRuntime) -> Result<(), Fail> {
-    each_log(&rt, rt.alloc(), &example(rt.alloc())?, SMALL_LOGS_ROWS)
+    each_log(&rt, "", rt.alloc(), &example(rt.alloc())?, SMALL_LOGS_ROWS)
 }
 
 const ORDERS_ROWS: &[Row] = &[
@@ -48,7 +49,7 @@ const ORDERS_ROWS: &[Row] = &[
 // Two openings, or two grants, in either order: the order of the list decides how many are visited.
 #[test]
 fn orders(rt: HostRuntime) -> Result<(), Fail> {
-    each_log(&rt, rt.alloc(), &example(rt.alloc())?, ORDERS_ROWS)
+    each_log(&rt, "", rt.alloc(), &example(rt.alloc())?, ORDERS_ROWS)
 }
 
 const TWO_OF_EACH_ROWS: &[Row] = &[
@@ -81,5 +82,5 @@ const TWO_OF_EACH_ROWS: &[Row] = &[
 
 #[test]
 fn two_of_each(rt: HostRuntime) -> Result<(), Fail> {
-    each_log(&rt, rt.alloc(), &example(rt.alloc())?, TWO_OF_EACH_ROWS)
+    each_log(&rt, "", rt.alloc(), &example(rt.alloc())?, TWO_OF_EACH_ROWS)
 }

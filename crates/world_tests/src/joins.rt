@@ -2,6 +2,7 @@
 use crate::shared::*;
 use book::{Atom, Book, Formula};
 use std::alloc::Global;
+use std::test::Fail;
 
 // The formula is node 5. Its children can be node 2, of class 1, and node 4, of class 2.
 fn joined(heap: Global, formula: Formula) -> Result<Book, Fail> {
@@ -20,7 +21,7 @@ const CONJUNCTIONS_ROWS: &[Row] = &[
 #[test]
 fn conjunctions(rt: HostRuntime) -> Result<(), Fail> {
     let book = joined(rt.alloc(), Formula::And { left: 2, right: 4 })?;
-    each_log(&rt, rt.alloc(), &book, CONJUNCTIONS_ROWS)
+    each_log(&rt, "", rt.alloc(), &book, CONJUNCTIONS_ROWS)
 }
 
 const DISJUNCTIONS_ROWS: &[Row] = &[
@@ -34,7 +35,7 @@ const DISJUNCTIONS_ROWS: &[Row] = &[
 #[test]
 fn disjunctions(rt: HostRuntime) -> Result<(), Fail> {
     let book = joined(rt.alloc(), Formula::Or { left: 2, right: 4 })?;
-    each_log(&rt, rt.alloc(), &book, DISJUNCTIONS_ROWS)
+    each_log(&rt, "", rt.alloc(), &book, DISJUNCTIONS_ROWS)
 }
 
 const ONE_CHILD_TWICE_AND_ROWS: &[Row] = &[
@@ -52,8 +53,20 @@ const ONE_CHILD_TWICE_OR_ROWS: &[Row] = &[
 fn one_child_twice(rt: HostRuntime) -> Result<(), Fail> {
     let conjunction = joined(rt.alloc(), Formula::And { left: 4, right: 4 })?;
     let disjunction = joined(rt.alloc(), Formula::Or { left: 4, right: 4 })?;
-    each_log(&rt, rt.alloc(), &conjunction, ONE_CHILD_TWICE_AND_ROWS).note("and")?;
-    each_log(&rt, rt.alloc(), &disjunction, ONE_CHILD_TWICE_OR_ROWS).note("or")
+    each_log(
+        &rt,
+        "and, ",
+        rt.alloc(),
+        &conjunction,
+        ONE_CHILD_TWICE_AND_ROWS,
+    )?;
+    each_log(
+        &rt,
+        "or, ",
+        rt.alloc(),
+        &disjunction,
+        ONE_CHILD_TWICE_OR_ROWS,
+    )
 }
 
 // As many nodes as a book can have, each the left child of the next, and none of the right children is read.
@@ -69,5 +82,5 @@ fn deep_chain(rt: HostRuntime) -> Result<(), Fail> {
         right: 1,
     }))?;
     let book = made(rt.alloc(), nodes.as_slice())?;
-    each_log(&rt, rt.alloc(), &book, &[("no element", &[], 4096, 0)])
+    each_log(&rt, "", rt.alloc(), &book, &[("no element", &[], 4096, 0)])
 }

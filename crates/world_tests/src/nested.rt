@@ -2,6 +2,7 @@
 use crate::shared::*;
 use book::{Atom, Book, Formula};
 use std::alloc::Global;
+use std::test::Fail;
 use world::Element;
 
 const TWICE: [u32; 6] = [1, 1, 0, 0, 0, 0];
@@ -22,8 +23,8 @@ fn every_pair(rt: HostRuntime) -> Result<(), Fail> {
         premise(Formula::Every { class: 1, body: 2 }),
     ];
     let book = made(rt.alloc(), &nodes)?;
-    exactly(&rt, &book, &[ONE; 3], yes(12)).note("3 elements")?;
-    exactly(&rt, &book, &[ONE; 256], yes(65_792)).note("256 elements")
+    exactly(&rt, &"3 elements", &book, &[ONE; 3], yes(12))?;
+    exactly(&rt, &"256 elements", &book, &[ONE; 256], yes(65_792))
 }
 
 // Six quantifiers, which read the digits of a number in base 2: is there a way to write this number?
@@ -66,7 +67,13 @@ fn six_deep(rt: HostRuntime) -> Result<(), Fail> {
     ];
     for (number, expected) in table {
         let book = digits(rt.alloc(), number)?;
-        exactly(&rt, &book, log.as_slice(), expected).note(format_args!("number {number}"))?;
+        exactly(
+            &rt,
+            &format_args!("number {number}"),
+            &book,
+            log.as_slice(),
+            expected,
+        )?;
     }
     Ok(())
 }

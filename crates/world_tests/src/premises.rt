@@ -1,6 +1,7 @@
 // Premises: by rising number, up to the first false one, and no other nodes.
 use crate::shared::*;
 use book::Formula;
+use std::test::Fail;
 
 const BOTH_ROWS: &[Row] = &[
     ("both true", &[(1, 1), (2, 1), (2, 1)], 0, 3),
@@ -19,6 +20,7 @@ const BOTH_ROWS: &[Row] = &[
 fn both(rt: HostRuntime) -> Result<(), Fail> {
     each_log(
         &rt,
+        "",
         rt.alloc(),
         &made(rt.alloc(), &claims(true, true))?,
         BOTH_ROWS,
@@ -41,16 +43,16 @@ const ONE_OF_TWO_SECOND_ROWS: &[Row] = &[
 fn one_of_two(rt: HostRuntime) -> Result<(), Fail> {
     each_log(
         &rt,
+        "node 2, ",
         rt.alloc(),
         &made(rt.alloc(), &claims(true, false))?,
         ONE_OF_TWO_FIRST_ROWS,
-    )
-    .note("node 2")?;
+    )?;
     each_log(
         &rt,
+        "node 4, ",
         rt.alloc(),
         &made(rt.alloc(), &claims(false, true))?,
         ONE_OF_TWO_SECOND_ROWS,
     )
-    .note("node 4")
 }

@@ -2,6 +2,7 @@
 use crate::shared::*;
 use book::{Book, Formula};
 use std::alloc::Global;
+use std::test::Fail;
 
 // The formula is node 2, and its body, node 1, is true where the element has 0 or more.
 fn over(heap: Global, formula: Formula) -> Result<Book, Fail> {
@@ -24,7 +25,7 @@ const EXISTS_ROWS: &[Row] = &[
 #[test]
 fn exists(rt: HostRuntime) -> Result<(), Fail> {
     let book = over(rt.alloc(), Formula::Exists { class: 1, body: 1 })?;
-    each_log(&rt, rt.alloc(), &book, EXISTS_ROWS)
+    each_log(&rt, "", rt.alloc(), &book, EXISTS_ROWS)
 }
 
 const EVERY_ROWS: &[Row] = &[
@@ -58,7 +59,7 @@ const EVERY_ROWS: &[Row] = &[
 #[test]
 fn every(rt: HostRuntime) -> Result<(), Fail> {
     let book = over(rt.alloc(), Formula::Every { class: 1, body: 1 })?;
-    each_log(&rt, rt.alloc(), &book, EVERY_ROWS)
+    each_log(&rt, "", rt.alloc(), &book, EVERY_ROWS)
 }
 
 const OTHER_CLASSES_SOME_ROWS: &[Row] = &[
@@ -80,6 +81,12 @@ const OTHER_CLASSES_ALL_ROWS: &[Row] = &[
 fn other_classes(rt: HostRuntime) -> Result<(), Fail> {
     let exists = over(rt.alloc(), Formula::Exists { class: 1, body: 1 })?;
     let every = over(rt.alloc(), Formula::Every { class: 1, body: 1 })?;
-    each_log(&rt, rt.alloc(), &exists, OTHER_CLASSES_SOME_ROWS).note("exists")?;
-    each_log(&rt, rt.alloc(), &every, OTHER_CLASSES_ALL_ROWS).note("every")
+    each_log(
+        &rt,
+        "exists, ",
+        rt.alloc(),
+        &exists,
+        OTHER_CLASSES_SOME_ROWS,
+    )?;
+    each_log(&rt, "every, ", rt.alloc(), &every, OTHER_CLASSES_ALL_ROWS)
 }

@@ -2,6 +2,7 @@
 use book::{Atom, Book, Class, Formula, Node, Term};
 use causes::Cause;
 use std::alloc::{AllocError, Global};
+use std::fmt;
 use std::process::Abort;
 use std::slice::from_ref;
 use std::test::Fail;
@@ -101,16 +102,21 @@ pub type Row = (&'static str, &'static [(u32, i64)], u32, u32);
 // Answered with as many visits as it takes and with the largest budget, and refused with one visit less.
 pub fn exactly(
     rt: &impl Abort,
+    name: &impl fmt::Display,
     book: &Book,
     log: &[Element],
     expected: Answer,
 ) -> Result<(), Fail> {
     let visits = expected.visits;
-    assert_eq!(rt; world_test(book, log, visits), Ok(expected), "just enough");
+    assert_eq!(rt;
+        world_test(book, log, visits),
+        Ok(expected),
+        "{name}, just enough"
+    );
     assert_eq!(rt;
         world_test(book, log, u32::MAX),
         Ok(expected),
-        "the largest budget"
+        "{name}, the largest budget"
     );
     if visits == 0 {
         return Ok(());
@@ -118,12 +124,18 @@ pub fn exactly(
     assert_eq!(rt;
         world_test(book, log, visits - 1),
         Err(Cause::OverBudget),
-        "one less"
+        "{name}, one less"
     );
     Ok(())
 }
 
-pub fn each_log(rt: &impl Abort, heap: Global, book: &Book, table: &[Row]) -> Result<(), Fail> {
+pub fn each_log(
+    rt: &impl Abort,
+    of: &str,
+    heap: Global,
+    book: &Book,
+    table: &[Row],
+) -> Result<(), Fail> {
     for (name, short, premise, visits) in table {
         let log = elements(heap, short)?;
         let expected = if *premise == 0 {
@@ -131,7 +143,13 @@ pub fn each_log(rt: &impl Abort, heap: Global, book: &Book, table: &[Row]) -> Re
         } else {
             no(*premise, *visits)
         };
-        exactly(rt, book, log.as_slice(), expected).note(*name)?;
+        exactly(
+            rt,
+            &format_args!("{of}{name}"),
+            book,
+            log.as_slice(),
+            expected,
+        )?;
     }
     Ok(())
 }

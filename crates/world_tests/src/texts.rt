@@ -1,6 +1,7 @@
 // Answers and refusals, by number and as text.
 use crate::shared::*;
 use causes::Cause;
+use std::test::Fail;
 
 #[test]
 fn answers(rt: HostRuntime) -> Result<(), Fail> {
@@ -12,7 +13,7 @@ fn answers(rt: HostRuntime) -> Result<(), Fail> {
     ];
     for (answer, number, text) in table {
         assert_eq!(rt; answer.verdict.number(), number, "{}", text);
-        assert_eq!(rt; answer.to_string(rt.alloc())?, text);
+        assert_eq!(rt; answer.to_string(rt.alloc())?.as_str(), text);
     }
     Ok(())
 }
@@ -38,7 +39,7 @@ fn refusals(rt: HostRuntime) -> Result<(), Fail> {
         ),
     ];
     for (cause, text) in table {
-        assert_eq!(rt; cause.to_string(rt.alloc())?, text);
+        assert_eq!(rt; cause.to_string(rt.alloc())?.as_str(), text);
     }
     Ok(())
 }
