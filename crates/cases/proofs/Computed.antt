@@ -11,6 +11,7 @@ use Rattle.world.specs.Worlds.{World, element_ok, element_at, most_elements}
 use Rattle.world.specs.Test.{tested, Testable}
 use Rattle.cases.specs.Book.{example_classes_lem, example_nodes_lem, rule_nodes, one_class, nested_nodes_lem}
 use Rattle.cases.specs.Worked.{same_time, in_order, WorkedCases}
+use Rattle.cases.specs.WorkedJudges.{WorkedJudgeCases}
 
 pub example_made : WellFormed example_classes_lem example_nodes_lem
 unfolding depth_of atom_ok body_ok node_ok heads_ok
@@ -51,6 +52,10 @@ worked_cases_lem = record {
   rule_kept = (testable in_order refl refl, refl, lit≤ tt);
   depth_five = five_made;
   depth_six = six_refused;
+}
+
+pub worked_judge_cases_lem : WorkedJudgeCases
+worked_judge_cases_lem = record {
   odd_refuted = refl;
   modulus_one = refl;
   even_kept = refl;

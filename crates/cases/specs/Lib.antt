@@ -1,3 +1,4 @@
 pub mod Book
 pub mod Judges
 pub mod Worked
+pub mod WorkedJudges

@@ -3,6 +3,7 @@ ghost use Rattle.std.specs.Prelude.{◌≡◌, ◌≤◌, length};
 ghost use Rattle.rows.specs.Making.{row_of};
 ghost use Rattle.rows.specs.Meaning.{most_terms};
 ghost use Rattle.cases.specs.Judges.{example_answer, opposed_rows, doubled as doubled_rows, own_ring, difference as difference_of, time_of, scaled as scaled_term};
+ghost use Rattle.cases.specs.WorkedJudges.{WorkedJudgeCases};
 
 use judges::{Chain, Pair, Residue, Sum, referee};
 use rows::{JudgeCause, Relation, Row, Term, Unknown};
@@ -81,4 +82,12 @@ pub fn in_a_ring(constant: i64) -> [Row; 1]
     ensures { result ≡ own_ring constant }
 {
     [difference(OPENED, OPENED, constant)]
+}
+
+// How many cases of judges there are; that they hold is the promise.
+pub fn worked_judge_cases() -> u32
+    ensures count { result ≡ 8 }
+    ensures hold { WorkedJudgeCases }
+{
+    8
 }

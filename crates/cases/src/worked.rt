@@ -4,8 +4,8 @@ ghost use Rattle.cases.specs.Worked.{WorkedCases};
 
 // How many cases there are; that they hold is the promise.
 pub fn worked_cases() -> u32
-    ensures count { result ≡ 16 }
+    ensures count { result ≡ 8 }
     ensures hold { WorkedCases }
 {
-    16
+    8
 }

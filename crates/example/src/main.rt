@@ -1,12 +1,9 @@
-// Makes rule books, tests event logs against them, asks judges about rows, and prints a line for each.
+// Makes rule books, tests event logs against them, and prints a line for each.
 #![tactic(auto)]
-
-mod judging;
 
 use book::Book;
 use cases::{GRANT, OPENING, example_book, nested_book, rule_book};
 use causes::Cause;
-use judging::show_judges;
 use world::{Element, world_test};
 
 const PLENTY: u32 = 1000;
@@ -139,9 +136,7 @@ fn run(rt: &HostRuntime) -> anyhow::Result<()> {
         rt,
         "exists at depth 6",
         nested_book(heap, [1, 1, 1, 1, 1, 1])?,
-    )?;
-    println!(rt; "Judges: a yes says that no whole numbers satisfy the rows.")?;
-    show_judges(rt)
+    )
 }
 
 fn main(rt: HostRuntime) -> anyhow::Result<()> {

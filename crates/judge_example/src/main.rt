@@ -1,4 +1,6 @@
-// A table of what judges say: the judge, the rows, the voucher, the answer, and the cause of a no.
+// Asks judges about rows, and prints a table: the judge, the rows, the voucher, the answer, and the cause of a no.
+#![tactic(auto)]
+
 use cases::{doubled, example_referee, in_a_ring, opposed};
 use judges::{Chain, Judge, Residue, Sum, referee};
 use rows::{JudgeCause, Row};
@@ -67,7 +69,7 @@ fn ask_pair(rt: &HostRuntime, questions: &[Question]) -> anyhow::Result<()> {
     Ok(())
 }
 
-pub fn show_judges(rt: &HostRuntime) -> anyhow::Result<()> {
+fn show_judges(rt: &HostRuntime) -> anyhow::Result<()> {
     println!(rt;
         "{:<7} | {:<41} | {:<7} | answer | cause",
         "judge", "rows", "voucher"
@@ -104,4 +106,9 @@ pub fn show_judges(rt: &HostRuntime) -> anyhow::Result<()> {
             (&[rows[0]; 65], &[0]),
         ],
     )
+}
+
+fn main(rt: HostRuntime) -> anyhow::Result<()> {
+    println!(rt; "Judges: a yes says that no whole numbers satisfy the rows.")?;
+    show_judges(&rt)
 }
