@@ -1,5 +1,5 @@
 -- The rules of a book: when its classes, nodes and premises are well formed.
-use Rattle.std.specs.Prelude.{◌≡◌, ℕ, zero, suc, ◌+◌, ◌-◌, ◌<◌, ◌≤◌, Bool, true, false, cond, not, ◌&&◌, ◌||◌, ◌⊎◌, List, [], ◌∷◌, map, length, get_or, take, ℤ, pos, ◌==◌, nat_le, nat_lt, slice_index, slice_index_or, slice_set, unsigned_abs}
+use Rattle.std.specs.Prelude.{◌≡◌, ℕ, suc, ◌-◌, Bool, true, false, cond, not, ◌&&◌, ◌||◌, ◌⊎◌, List, [], ◌∷◌, map, length, get_or, take, pos, ◌==◌, nat_le, nat_lt, slice_index, slice_index_or, slice_set, unsigned_abs}
 use Rattle.causes.specs.declared.cause.Cause.{Cause}
 use Rattle.causes.specs.declared.cause.Cause.TheVariants.{BadBook}
 use Rattle.book.specs.Limits.{most_classes, most_attributes, most_nodes, most_terms, slot_count, largest_coefficient, largest_constant}

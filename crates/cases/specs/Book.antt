@@ -1,12 +1,11 @@
 -- The example book: an opening of a door wants a grant at its time or before, and yet some opening has none.
-use Rattle.std.specs.Prelude.{ℕ, Bool, true, false, List, [], ◌∷◌, take, ℤ, pos, negsuc}
+use Rattle.std.specs.Prelude.{ℕ, true, false, List, [], ◌∷◌, take, ℤ, pos, negsuc}
 use Rattle.book.specs.Rules.{places_of}
 use Rattle.book.specs.declared.parts.Atom.{Atom}
 use Rattle.book.specs.declared.parts.Class.{Class}
 use Rattle.book.specs.declared.parts.Formula.{Formula}
 use Rattle.book.specs.declared.parts.Formula.TheVariants.{AtLeast, Exists, Every}
 use Rattle.book.specs.declared.parts.Node.{Node}
-use Rattle.book.specs.declared.parts.Term.{Term}
 
 abbrev pub opening : ℕ
 opening = 1

@@ -1,5 +1,5 @@
 -- The worked cases: what the definitions say of the example, by computation.
-use Rattle.std.specs.Prelude.{ℕ, List, [], ◌∷◌, pos, Ok, Err}
+use Rattle.std.specs.Prelude.{ℕ, [], ◌∷◌, pos, Ok, Err}
 use Rattle.causes.specs.declared.cause.Cause.TheVariants.{OverBudget}
 use Rattle.book.specs.Rules.{WellFormed, Fault}
 use Rattle.world.specs.Worlds.{World, Element}

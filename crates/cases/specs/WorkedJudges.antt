@@ -1,5 +1,5 @@
 -- The worked cases of judges: what their definitions say of small rows, by computation.
-use Rattle.std.specs.Prelude.{◌≡◌, List, [], ◌∷◌, pos, negsuc, Ok, Err}
+use Rattle.std.specs.Prelude.{◌≡◌, [], ◌∷◌, pos, negsuc, Ok, Err}
 use Rattle.rows.specs.declared.cause.JudgeCause.TheVariants.{BadVoucher, UnknownsLeft, NoConflict}
 use Rattle.judges.specs.Chain.{chain_answer}
 use Rattle.judges.specs.Residue.{residue_answer}

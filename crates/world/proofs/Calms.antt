@@ -1,10 +1,10 @@
 -- The values of a world that the test can take are in range.
-use Rattle.std.proofs.Common.{◌≡◌, ℕ, zero, suc, ◌-◌, ◌<◌, ◌≤◌, Bool, true, ◌&&◌, eqb, leb, List, [], ◌∷◌, length, get_or, ℤ, pos, nat_abs, sym, refl, ap, ◌∙◌, subst, ⊎_elim, zero-le, arith}
+use Rattle.std.proofs.Common.{◌≡◌, ℕ, zero, suc, ◌-◌, ◌<◌, ◌≤◌, true, eqb, leb, List, [], ◌∷◌, length, get_or, ℤ, pos, nat_abs, sym, subst, ⊎_elim, zero-le, arith}
 use Rattle.std.proofs.lemmas.List.{get_or_past}
 use Rattle.std.proofs.lemmas.Bool.{and_parts, leb-true, cases_lt}
 use Rattle.book.specs.Rules.{is_class, attributes_of}
 use Rattle.book.specs.declared.parts.Class.{Class}
-use Rattle.world.specs.Worlds.{World, Element, no_element, element_at, values_ok, element_ok, largest_value}
+use Rattle.world.specs.Worlds.{World, Element, no_element, values_ok, element_ok, largest_value}
 use Rattle.world.specs.Test.{Testable}
 use Rattle.world.specs.Inner.{values_at, Calm}
 

@@ -1,16 +1,15 @@
 -- The laws of truth: what each kind of node says.
-use Rattle.std.proofs.Common.{◌≡◌, ℕ, ◌≤◌, Bool, true, false, cond, not, eqb, ◌⊎◌, List, [], ◌∷◌, length, ℤ, pos, negsuc, ◌≤ℤ◌, sym, refl, ap, ◌∙◌, subst, inl, inr, ⊎_elim, arith}
+use Rattle.std.proofs.Common.{◌≡◌, ℕ, Bool, true, false, eqb, ◌⊎◌, List, [], ◌∷◌, length, ℤ, pos, negsuc, ◌≤ℤ◌, sym, refl, ap, ◌∙◌, inl, inr, ⊎_elim, arith}
 use lib.Signed.{le_z}
 use Rattle.std.proofs.lemmas.Int.{ints}
 use Rattle.std.proofs.lemmas.Bool.{eqb-true, eq-eqb, eqb-false, false≢true}
 use Rattle.book.specs.Lowest.{HoldsTo}
 use Rattle.book.specs.Rules.{depth_of, node_at, node_ok}
 use Rattle.book.specs.declared.parts.Class.{Class}
-use Rattle.book.specs.declared.parts.Formula.{Formula}
 use Rattle.book.specs.declared.parts.Node.{Node}
 use Rattle.world.specs.Worlds.{World, Element}
-use Rattle.world.specs.Truth.{Env, worth, is_zero, chained, visited, tried, said, evaluated}
-use Rattle.world.specs.Laws.{◌⇔◌, In, True, Says, with_element, TruthLaws}
+use Rattle.world.specs.Truth.{worth, is_zero, chained, tried, evaluated}
+use Rattle.world.specs.Laws.{◌⇔◌, In, TruthLaws}
 use Rattle.world.specs.declared.parts.Evaluation.{Evaluation}
 use Rattle.world.proofs.Nodes.{evaluated_is}
 use Rattle.world.proofs.Walks.{body_of}

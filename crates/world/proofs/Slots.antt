@@ -1,8 +1,8 @@
 -- An element's values, by its number.
-use Rattle.std.proofs.Common.{◌≡◌, ℕ, zero, suc, ◌+◌, ◌-◌, ◌<◌, ◌≤◌, List, [], ◌∷◌, map, length, get_or, set, ℤ, pos, sym, refl, ap, ◌∙◌, add-one, arith}
+use Rattle.std.proofs.Common.{◌≡◌, ℕ, zero, suc, ◌+◌, ◌-◌, ◌<◌, ◌≤◌, List, [], length, get_or, set, pos, sym, refl, ap, ◌∙◌, add-one, arith}
 use Rattle.std.proofs.lemmas.List.{get_or-map, get_or_past, length-map, map-set}
 use Rattle.world.specs.Worlds.{World, Element, element_of, element_at, world_of, no_element}
-use Rattle.world.specs.Truth.{Env, reading}
+use Rattle.world.specs.Truth.{reading}
 use Rattle.world.specs.Inner.{values_at, env_of}
 use Rattle.world.specs.declared.parts.Element.{Element as Given}
 

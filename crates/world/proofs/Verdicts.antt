@@ -1,16 +1,16 @@
 -- The laws of the world test: what its answers mean.
-use Rattle.std.proofs.Common.{◌≡◌, ℕ, zero, suc, ◌+◌, ◌-◌, ◌<◌, ◌≤◌, Bool, true, false, cond, ◌⊎◌, List, [], ◌∷◌, length, get_or, Ok, Err, Result, sym, refl, ap, ◌∙◌, subst, inl, inr, ⊎_elim, arith}
+use Rattle.std.proofs.Common.{◌≡◌, ℕ, zero, suc, ◌+◌, ◌-◌, ◌<◌, Bool, true, false, List, [], ◌∷◌, length, get_or, Ok, Err, Result, sym, refl, ap, ◌∙◌, subst, ⊎_elim, arith}
 use Rattle.std.proofs.lemmas.Bool.{false≢true, cases_order}
-use Rattle.book.specs.Rules.{no_node, node_at}
+use Rattle.book.specs.Rules.{no_node}
 use Rattle.book.specs.declared.parts.Class.{Class}
 use Rattle.book.specs.declared.parts.Node.{Node}
 use Rattle.causes.specs.declared.cause.Cause.{Cause}
 use Rattle.causes.specs.declared.cause.Cause.TheVariants.{BadBook, BadWorld, OverBudget}
 use Rattle.world.specs.Worlds.{World}
 use Rattle.world.specs.Truth.{nothing, evaluated}
-use Rattle.world.specs.Test.{then_rest, tested_from, tested, Testable, Answered}
+use Rattle.world.specs.Test.{tested_from, tested, Testable, Answered}
 use Rattle.world.specs.Inner.{GivenWithin}
-use Rattle.world.specs.Laws.{◌⇔◌, True, Premise, FirstFalse, TestLaws}
+use Rattle.world.specs.Laws.{True, Premise, FirstFalse, TestLaws}
 use Rattle.world.specs.declared.parts.Answer.{Answer}
 use Rattle.world.specs.declared.parts.Verdict.{Verdict}
 use Rattle.world.specs.declared.parts.Verdict.TheVariants.{Yes, No}

@@ -1,10 +1,10 @@
 -- How a quantifier's walk goes on: what is left to try tells the whole.
-use Rattle.std.proofs.Common.{◌≡◌, ℕ, ◌+◌, ◌-◌, ◌<◌, ◌≤◌, Bool, true, false, cond, not, List, [], ◌∷◌, length, get_or, drop, set, ℤ, sym, refl, ap, ◌∙◌, subst, arith}
+use Rattle.std.proofs.Common.{◌≡◌, ℕ, ◌+◌, ◌-◌, ◌<◌, ◌≤◌, Bool, true, false, not, List, ◌∷◌, length, get_or, drop, set, ℤ, sym, refl, ap, ◌∙◌, subst, arith}
 use mathlib.Core.Bool.{beq}
 use Rattle.std.proofs.lemmas.List.{at_drop_more, at_drop_all}
 use Rattle.std.proofs.lemmas.Bool.{eq-eqb, ne_eqb}
 use Rattle.book.specs.declared.parts.Node.{Node}
-use Rattle.world.specs.Worlds.{World, Element, no_element}
+use Rattle.world.specs.Worlds.{World, no_element}
 use Rattle.world.specs.Truth.{Env, chained, visited, tried, evaluated}
 use Rattle.world.specs.declared.parts.Evaluation.{Evaluation}
 

@@ -1,5 +1,5 @@
 -- What the private functions of the test ask and promise.
-use Rattle.std.specs.Prelude.{◌≡◌, ℕ, zero, suc, ◌+◌, ◌*◌, ◌<◌, ◌≤◌, List, [], map, length, get_or, ℤ, pos, Ok, Err, Result, slice_index_or, unsigned_abs}
+use Rattle.std.specs.Prelude.{◌≡◌, ℕ, zero, suc, ◌<◌, ◌≤◌, List, [], map, length, get_or, ℤ, pos, Ok, Err, Result, slice_index_or, unsigned_abs}
 use Rattle.causes.specs.declared.cause.Cause.{Cause}
 use Rattle.causes.specs.declared.cause.Cause.TheVariants.{BadWorld, OverBudget}
 use Rattle.book.specs.Limits.{most_terms, slot_count, largest_coefficient}

@@ -1,6 +1,5 @@
 -- Laws of truth and of the world test, in the words of the subject.
-use Rattle.std.specs.Prelude.{◌≡◌, ℕ, ◌<◌, ◌≤◌, Bool, true, ◌⊎◌, List, [], ◌∷◌, length, pos, ◌≤ℤ◌, Ok, Err, slice_set}
-use Rattle.causes.specs.declared.cause.Cause.{Cause}
+use Rattle.std.specs.Prelude.{◌≡◌, ℕ, ◌<◌, ◌≤◌, true, ◌⊎◌, List, [], ◌∷◌, length, pos, ◌≤ℤ◌, Ok, slice_set}
 use Rattle.book.specs.Rules.{depth_of, node_at}
 use Rattle.book.specs.declared.parts.Atom.{Atom}
 use Rattle.book.specs.declared.parts.Class.{Class}

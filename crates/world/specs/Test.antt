@@ -9,7 +9,6 @@ use Rattle.world.specs.Worlds.{World, element_at, element_ok, most_elements}
 use Rattle.world.specs.Truth.{evaluated, nothing}
 use Rattle.world.specs.declared.parts.Answer.{Answer}
 use Rattle.world.specs.declared.parts.Evaluation.{Evaluation}
-use Rattle.world.specs.declared.parts.Verdict.{Verdict}
 use Rattle.world.specs.declared.parts.Verdict.TheVariants.{Yes, No}
 
 -- premise n, and the rest only where it is true

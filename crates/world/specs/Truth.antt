@@ -1,12 +1,12 @@
 -- What a node says in a world, and how many elements are visited to tell.
-use Rattle.std.specs.Prelude.{◌≡◌, ℕ, zero, suc, ◌+◌, Bool, true, false, cond, not, List, [], ◌∷◌, ℤ, pos, negsuc, ◌+ℤ◌, ◌*ℤ◌, ◌==◌, int_le, slice_index_or, slice_set}
+use Rattle.std.specs.Prelude.{ℕ, zero, suc, ◌+◌, Bool, true, false, cond, not, List, [], ◌∷◌, ℤ, pos, negsuc, ◌+ℤ◌, ◌*ℤ◌, ◌==◌, int_le, slice_index_or, slice_set}
 use Rattle.book.specs.Rules.{depth_of, node_at, terms_of}
 use Rattle.book.specs.declared.parts.Term.{Term}
 use Rattle.book.specs.declared.parts.Atom.{Atom}
 use Rattle.book.specs.declared.parts.Formula.{Formula}
 use Rattle.book.specs.declared.parts.Formula.TheVariants.{AtLeast, Equal, And, Or, Exists, Every}
 use Rattle.book.specs.declared.parts.Node.{Node}
-use Rattle.world.specs.Worlds.{World, Element}
+use Rattle.world.specs.Worlds.{World}
 use Rattle.world.specs.declared.parts.Evaluation.{Evaluation}
 
 -- each slot's numbers

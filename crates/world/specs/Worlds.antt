@@ -1,5 +1,5 @@
 -- Worlds: finite lists of elements, whose numbers have no bound.
-use Rattle.std.specs.Prelude.{ℕ, zero, suc, ◌-◌, Bool, true, ◌&&◌, List, [], ◌∷◌, map, length, ℤ, ◌==◌, nat_le, slice_index_or, unsigned_abs}
+use Rattle.std.specs.Prelude.{ℕ, ◌-◌, Bool, true, ◌&&◌, List, [], ◌∷◌, map, length, ℤ, ◌==◌, nat_le, slice_index_or, unsigned_abs}
 use Rattle.book.specs.Rules.{is_class, attributes_of}
 use Rattle.book.specs.declared.parts.Class.{Class}
 use Rattle.world.specs.declared.parts.Element.{Element as Given}

@@ -1,4 +1,4 @@
-use Rattle.std.proofs.Common.{sym, ◌∙◌, arith}
+use Rattle.std.proofs.Common.{sym, arith}
 use Rattle.book.proofs.Tests.{depth_all, depth_more, depth_here}
 use Rattle.book.proofs.rules.used.Goals as goal
 

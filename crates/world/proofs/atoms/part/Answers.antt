@@ -1,4 +1,4 @@
-use Rattle.std.proofs.Common.{get_or, ℤ, pos, ◌*ℤ◌, ap, ◌∙◌, arith}
+use Rattle.std.proofs.Common.{get_or, pos, ◌*ℤ◌, ap, ◌∙◌, arith}
 use Rattle.world.specs.Worlds.{world_of}
 use Rattle.world.specs.Inner.{values_at}
 use Rattle.world.proofs.Slots.{slot_reading}

@@ -1,4 +1,4 @@
-use Rattle.std.proofs.Common.{◌≡◌, ◌-◌, [], get_or, pos, sym, ap, ◌∙◌, ⊎_elim, w64, SFits, rules}
+use Rattle.std.proofs.Common.{◌-◌, get_or, pos, sym, ap, ◌∙◌, ⊎_elim, w64, SFits, rules}
 use Rattle.std.proofs.lemmas.List.{get_or_past}
 use Rattle.std.proofs.lemmas.Int.{to_z-of_z}
 use Rattle.world.specs.Worlds.{world_of}

@@ -1,4 +1,4 @@
-use Rattle.std.proofs.Common.{◌≡◌, ◌<◌, ◌≤◌, min, length, get_or, take, ℤ, ◌+ℤ◌, sym, refl, ap, ◌∙◌, arith, w32, SFits, rules}
+use Rattle.std.proofs.Common.{◌≡◌, ◌<◌, length, get_or, sym, ap, ◌∙◌, arith, w32, SFits, rules}
 use Rattle.std.proofs.lemmas.List.{get_or-take, length-take}
 use Rattle.book.specs.Rules.{terms_of, no_term}
 use Rattle.world.specs.Worlds.{world_of}

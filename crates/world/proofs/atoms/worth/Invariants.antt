@@ -1,5 +1,5 @@
 use Rattle.std.proofs.Common.{◌≡◌, ◌+◌, ◌*◌, ◌^◌, ◌≤◌, drop, ◌+ℤ◌, nat_abs}
-use Rattle.book.specs.Limits.{largest_coefficient, largest_constant}
+use Rattle.book.specs.Limits.{largest_coefficient}
 use Rattle.book.specs.Rules.{terms_of}
 use Rattle.world.specs.Worlds.{world_of, largest_value}
 use Rattle.world.specs.Truth.{sum, worth}

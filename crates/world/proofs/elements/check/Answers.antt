@@ -1,4 +1,4 @@
-use Rattle.std.proofs.Common.{◌≡◌, ℕ, ◌+◌, sym, refl, ap, ◌∙◌, inl, inr, arith}
+use Rattle.std.proofs.Common.{◌+◌, sym, refl, ap, ◌∙◌, inl, inr, arith}
 use Rattle.book.specs.Whole.{classes_of}
 use Rattle.book.proofs.Tests.{holds_more}
 use Rattle.world.specs.Worlds.{world_of, element_at, element_ok}

@@ -1,16 +1,15 @@
-use Rattle.std.proofs.Common.{◌≡◌, ℕ, ◌+◌, ◌-◌, ◌<◌, ◌≤◌, true, false, get_or, set, ℤ, pos, sym, refl, ap, ◌∙◌, subst, zero-le, arith, w64, SFits, rules}
+use Rattle.std.proofs.Common.{ℕ, ◌+◌, ◌-◌, ◌<◌, ◌≤◌, true, false, ℤ, pos, sym, refl, ap, ◌∙◌, subst, zero-le, arith, w64, SFits}
 use lib.Signed.{le_z}
 use Rattle.std.proofs.lemmas.Int.{to_z-of_z}
 use Rattle.std.proofs.lemmas.Result.{err_from_is_err_and}
-use Rattle.book.specs.Rules.{depth_of, node_at}
 use Rattle.book.specs.Whole.{nodes_of}
-use Rattle.world.specs.Worlds.{world_of, no_element}
-use Rattle.world.specs.Truth.{Env, worth, is_zero, tried, evaluated}
-use Rattle.world.specs.Inner.{env_of, Told}
+use Rattle.world.specs.Worlds.{world_of}
+use Rattle.world.specs.Truth.{Env, is_zero, tried, evaluated}
+use Rattle.world.specs.Inner.{env_of}
 use Rattle.world.specs.declared.parts.Evaluation.{Evaluation}
 use Rattle.world.proofs.Arms.{arm_sound, arm_says, arm_depth, ready_before, told_by, zero_bits}
 use Rattle.world.proofs.Slots.{slot_set, class_at, inside, outside, length_world}
-use Rattle.world.proofs.Walks.{Walked, body_of, walk_ends, walk_skips, walk_spent, walk_over, walk_stops, walk_goes, beq_same, beq_other}
+use Rattle.world.proofs.Walks.{body_of, walk_ends, walk_skips, walk_spent, walk_over, walk_stops, walk_goes, beq_same, beq_other}
 use Rattle.world.proofs.evaluate.+both_evaluate_walk.Goals as goal
 use Rattle.world.proofs.evaluate.+both_evaluate_walk.Goals.{walk-then-e-q+else-visits-budget+in_ok-b+else-b-q, walk-else-e-q}
 

@@ -1,11 +1,10 @@
-use Rattle.std.proofs.Common.{◌≡◌, length, sym, ap, ◌∙◌, arith}
+use Rattle.std.proofs.Common.{◌∙◌, arith}
 use Rattle.std.proofs.lemmas.Result.{err_from_is_err_and}
 use Rattle.std.proofs.lemmas.Bool.{not-true, not-false}
 use Rattle.book.specs.Whole.{classes_of, nodes_of}
 use Rattle.book.proofs.Tests.{heads_few}
 use Rattle.world.specs.Worlds.{world_of}
 use Rattle.world.specs.Inner.{values_at}
-use Rattle.world.specs.declared.parts.Evaluation.{Evaluation}
 use Rattle.world.proofs.Calms.{testable_calm}
 use Rattle.world.proofs.Gone.{inside, outside, mark_at, gone_none, gone_ends, gone_skips, gone_over, gone_stops, gone_goes}
 use Rattle.world.proofs.premises.try_premises.Goals as goal

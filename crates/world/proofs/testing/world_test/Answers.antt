@@ -1,11 +1,9 @@
-use Rattle.std.proofs.Common.{◌≡◌, Ok, Err, Result, ap, ◌∙◌}
+use Rattle.std.proofs.Common.{◌≡◌, Err, ap, ◌∙◌}
 use Rattle.causes.specs.declared.cause.Cause.{Cause}
 use Rattle.causes.specs.declared.cause.Cause.TheVariants.{BadWorld}
 use Rattle.std.proofs.lemmas.Result.{err_from_is_err_and}
 use Rattle.book.specs.Whole.{classes_of, nodes_of}
 use Rattle.world.specs.Worlds.{world_of}
-use Rattle.world.specs.Test.{Answered}
-use Rattle.world.specs.declared.parts.Answer.{Answer}
 use Rattle.world.proofs.Meanings.{truth_laws}
 use Rattle.world.proofs.Verdicts.{test_laws, answered_from}
 use Rattle.world.proofs.testing.world_test.Goals as goal
