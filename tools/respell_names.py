@@ -4,7 +4,7 @@
 usage: python3 tools/respell_names.py          at the top of the repository, once, after port.py
        python3 tools/respell_names.py --list   prints old and new names, and changes nothing
 
-A name joined by dashes becomes snake case, or camel case where it begins with a capital (a type or a fact).
+A name joined by dashes, or with a capital inside, becomes snake case, or camel case where it begins with a capital (a type or a fact).
 Names that Rattle makes (goals, labels) and functions, fields, parameters and strings of src/ keep their spelling.
 A definition that would have the name of a function or a constant beside it in src/ gets '_lem'.
 In src/ only 'ghost use' lines, clauses and ghost items are touched.
@@ -18,9 +18,10 @@ import sys
 TOKEN = re.compile(r"[^\s(){}\[\];,.·⌜⌝\"]+")
 HEAD = re.compile(r"(?:abbrev |unfoldable |pub )*([^\s:(){};,.]+)(?: [^:=]*)? : ")
 KIND = re.compile(r"(?:pub )?(?:record|data|ruleset) ([^\s:(){};,.]+)")
-PART = re.compile(r"\s+(?:pub )?([^\s:(){};,.]+) : ")
+PART = re.compile(r"\s+(?:abbrev |unfoldable |pub )*([^\s:(){};,.]+) : ")
 GHOST = re.compile(r"\s*(?:pub )?(?:ghost\b|requires\b|ensures\b)")
 WORD = re.compile(r"[A-Za-z_][A-Za-z0-9_]*")
+INNER = re.compile(r"(?<=[a-z])[A-Z](?=[a-z]|_|-|$)")
 
 
 def antt():
@@ -52,14 +53,14 @@ def own_names():
         for line in read(path).splitlines():
             if GHOST.match(line):
                 names.update(re.findall(r" as ([^\s,}]+)", line))
-    return {n for n in names if "-" in n and WORD.match(n[0])}
+    return {n for n in names if WORD.match(n[0]) and ("-" in n or INNER.search(n) and n[0].islower())}
 
 
 def respelled(name):
     parts = name.split("-")
     if name[0].isupper():
         return "".join(p[:1].upper() + p[1:] for p in parts)
-    return "_".join(parts)
+    return INNER.sub(lambda m: "_" + m[0].lower(), "_".join(parts))
 
 
 def functions_and_constants():

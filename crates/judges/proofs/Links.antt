@@ -49,14 +49,14 @@ abbrev pub Follows : List Row → ℕ → ℕ → Type 0
 Follows rows i next = ((i + 1 < length rows) × (next ≡ i + 1)) ⊎ ((length rows ≤ i + 1) × (next ≡ 0))
 
 module _ (rows : List Row) (i : ℕ) (l : i < length rows) (next : ℕ) where
-  abbrev plus-at : ℕ → Unknown
-  plus-at j = plus_of (get_or rows j no_row)
+  abbrev plus_at : ℕ → Unknown
+  plus_at j = plus_of (get_or rows j no_row)
 
-  next_plus_at : Follows rows i next → next_plus (home_of rows) (drop (i + 1) rows) ≡ plus-at next
-  next_plus_at (inl (m, e)) = at_drop_more (next_plus (home_of rows)) rows (i + 1) no_row m ∙ ap plus-at (sym e)
+  next_plus_at : Follows rows i next → next_plus (home_of rows) (drop (i + 1) rows) ≡ plus_at next
+  next_plus_at (inl (m, e)) = at_drop_more (next_plus (home_of rows)) rows (i + 1) no_row m ∙ ap plus_at (sym e)
   next_plus_at (inr (m, e)) =
       let some : 0 < length rows = omega arith in
-      at_drop_all (next_plus (home_of rows)) rows (i + 1) m ∙ at_drop_more (next_plus no_unknown) rows 0 no_row some ∙ ap plus-at (sym e)
+      at_drop_all (next_plus (home_of rows)) rows (i + 1) m ∙ at_drop_more (next_plus no_unknown) rows 0 no_row some ∙ ap plus_at (sym e)
 
   pub leads_at : Follows rows i next → (u w : Unknown) → u ≡ minus_of (get_or rows i no_row) → w ≡ plus_of (get_or rows next no_row) → leads (home_of rows) (drop i rows) ≡ (same_unknown u w && leads (home_of rows) (drop (i + 1) rows))
   leads_at f u w p q =

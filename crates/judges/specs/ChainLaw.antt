@@ -20,7 +20,7 @@ use Rattle.judges.specs.Unknowns.{same_unknown, same_number}
 use Rattle.judges.specs.Chain.{chain_rows, unknown_with_lem, minus_of, IsDifference, is_at_least, are_opposed_lem, is_difference, all_differences, next_plus, Leads, leads, home_of, constants_of, chain_asks, chain_passes, chain_answer}
 use Rattle.judges.specs.Answering.{asked}
 use Rattle.judges.specs.Combined.{same_decides}
-use Rattle.judges.specs.Numbers.{leb_decides, leZ_decides, number_decides}
+use Rattle.judges.specs.Numbers.{leb_decides, le_z_decides, number_decides}
 
 -- what each test decides
 at_least_decides : (r : Relation) → Decides (is_at_least r) (r ≡ AtLeast)
@@ -79,7 +79,7 @@ chain_decides rows voucher TooManyRows = leb_decides (length rows) chain_rows
 chain_decides rows voucher BadVoucher = Decides-eqb (length voucher) 0
 chain_decides rows voucher BadShape = Decides-by_and is_difference IsDifference all_differences difference_decides refl (λ _ _. refl) rows
 chain_decides rows voucher UnknownsLeft = leads_decides (home_of rows) rows
-chain_decides rows voucher NoConflict = leZ_decides (constants_of rows) (negsuc 0)
+chain_decides rows voucher NoConflict = le_z_decides (constants_of rows) (negsuc 0)
 
 -- the law
 one_times : (x : ℤ) → pos 1 *ℤ x ≡ x
@@ -90,12 +90,12 @@ minus_one_times x = let a = pred_ℤ-*ℤ (pos 0) x in let z = zero-*ℤ x in om
 
 module _ (v : Valuation) where
   -- the sum of the terms, and the unknown with -1, make the unknown with 1
-  abbrev Evens-out : List Term → Type 0
-  Evens-out ts = sum_of v ts +ℤ v (unknown_with_lem (negsuc 0) ts) ≡ v (unknown_with_lem (pos 1) ts)
+  abbrev EvensOut : List Term → Type 0
+  EvensOut ts = sum_of v ts +ℤ v (unknown_with_lem (negsuc 0) ts) ≡ v (unknown_with_lem (pos 1) ts)
 
-  evens_out : (ts : List Term) → Opposed ts → Evens-out ts
-  evens_out ts (u, w, inl e) = subst Evens-out (sym e) (omega (arith, ints, one_times (v u), minus_one_times (v w)))
-  evens_out ts (u, w, inr e) = subst Evens-out (sym e) (omega (arith, ints, one_times (v u), minus_one_times (v w)))
+  evens_out : (ts : List Term) → Opposed ts → EvensOut ts
+  evens_out ts (u, w, inl e) = subst EvensOut (sym e) (omega (arith, ints, one_times (v u), minus_one_times (v w)))
+  evens_out ts (u, w, inr e) = subst EvensOut (sym e) (omega (arith, ints, one_times (v u), minus_one_times (v w)))
 
   -- from the unknown where a way ends back to the one where it begins, there is no more than the constants
   way : (home : Unknown) (rows : List Row) → AllByRecursion IsDifference rows → Leads home rows → AllHold v rows → v home ≤ℤ (v (next_plus home rows) +ℤ constants_of rows)

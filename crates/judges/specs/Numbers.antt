@@ -12,14 +12,14 @@ use Rattle.judges.specs.Gather.{Small}
 pub leb_decides : (a b : ℕ) → Decides (nat_le a b) (a ≤ b)
 leb_decides a b = (leb-true a b, le-leb a b)
 
-pub leZ_decides : (x y : ℤ) → Decides (int_le x y) (x ≤ℤ y)
-leZ_decides x y = (λ h. grind (arith, ints), λ h. grind (arith, ints))
+pub le_z_decides : (x y : ℤ) → Decides (int_le x y) (x ≤ℤ y)
+le_z_decides x y = (λ h. grind (arith, ints), λ h. grind (arith, ints))
 
 pub number_decides : (x y : ℤ) → Decides (same_number x y) (x ≡ y)
 number_decides x y = (λ h. grind (arith, ints), λ e. grind (arith, ints))
 
 pub between_decides : (low high n : ℤ) → Decides (between low high n) (Between low high n)
-between_decides low high n = Decides-and (int_le low n) (int_le n high) (leZ_decides low n) (leZ_decides n high)
+between_decides low high n = Decides-and (int_le low n) (int_le n high) (le_z_decides low n) (le_z_decides n high)
 
 pub numbers_decide : (low : ℤ) (count : ℕ) (ns : List ℤ) → Decides (numbers_fit low count ns) (NumbersFit low count ns)
 numbers_decide low count ns =

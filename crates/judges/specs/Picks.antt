@@ -52,32 +52,32 @@ caused_map P Q f (Err e) h = f e h
 
 -- what the two judges mean and give
 module _ (first second : Meaning) (G H : List Row → List ℤ → JudgeCause → Type 0) (rows : List Row) (v : List ℤ) where
-  abbrev pub Pair-says : Answer → Type 0
-  Pair-says r = (is_ok r ≡ pair_admits first second rows v) × Caused (pair_gives G H rows v) r
+  abbrev pub PairSays : Answer → Type 0
+  PairSays r = (is_ok r ≡ pair_admits first second rows v) × Caused (pair_gives G H rows v) r
 
   module _ (few : length rows ≤ pair_rows) where
     admits_by : (b : Bool) → b ≡ picked (first rows) (second rows) false v → b ≡ pair_admits first second rows v
     admits_by b h = rw (le-leb (length rows) pair_rows few) h
 
-    pub says_first : 0 < length v → slice_index_or v 0 (pos 0) ≡ pos 0 → (r : Answer) → is_ok r ≡ first rows (rest_of v) → Caused (G rows (rest_of v)) r → Pair-says r
+    pub says_first : 0 < length v → slice_index_or v 0 (pos 0) ≡ pos 0 → (r : Answer) → is_ok r ≡ first rows (rest_of v) → Caused (G rows (rest_of v)) r → PairSays r
     says_first some is r ok cause = (
       admits_by (is_ok r) (picked_at (first rows) (second rows) false (is_ok r) v (picked_first _ _ _ v some is ok)),
       caused_map (G rows (rest_of v)) (pair_gives G H rows v) (λ e h. inr (few, picked_first _ _ _ v some is h)) r cause,
     )
 
-    pub says_second : 0 < length v → slice_index_or v 0 (pos 0) ≡ pos 1 → (r : Answer) → is_ok r ≡ second rows (rest_of v) → Caused (H rows (rest_of v)) r → Pair-says r
+    pub says_second : 0 < length v → slice_index_or v 0 (pos 0) ≡ pos 1 → (r : Answer) → is_ok r ≡ second rows (rest_of v) → Caused (H rows (rest_of v)) r → PairSays r
     says_second some is r ok cause = (
       admits_by (is_ok r) (picked_at (first rows) (second rows) false (is_ok r) v (picked_second _ _ _ v some is ok)),
       caused_map (H rows (rest_of v)) (pair_gives G H rows v) (λ e h. inr (few, picked_second _ _ _ v some is h)) r cause,
     )
 
-    pub says_none : (0 < length v → slice_index_or v 0 (pos 0) ≢ pos 0) → (0 < length v → slice_index_or v 0 (pos 0) ≢ pos 1) → Pair-says (Err BadVoucher)
+    pub says_none : (0 < length v → slice_index_or v 0 (pos 0) ≢ pos 0) → (0 < length v → slice_index_or v 0 (pos 0) ≢ pos 1) → PairSays (Err BadVoucher)
     says_none a b = (
       admits_by false (picked_at (first rows) (second rows) false false v (picked_none _ _ _ v a b refl)),
       inr (few, picked_none _ _ _ v a b refl),
     )
 
-  pub says_many : pair_rows < length rows → Pair-says (Err TooManyRows)
+  pub says_many : pair_rows < length rows → PairSays (Err TooManyRows)
   says_many many = (rw (lt-leb (length rows) pair_rows many) refl, inl (many, refl))
 
 -- a pair of lawful judges is lawful

@@ -5,13 +5,13 @@ use Rattle.std.specs.Int.{w32, w64, w128}
 use Rattle.std.proofs.lemmas.Int.{ints, to_z-of_z}
 use Rattle.judges.specs.Combination.{largest_number}
 
-natAbs_neg : (n : ℕ) → unsigned_abs (neg_ℤ (pos n)) ≡ n
-natAbs_neg n = omega (arith, ints)
+nat_abs_neg : (n : ℕ) → unsigned_abs (neg_ℤ (pos n)) ≡ n
+nat_abs_neg n = omega (arith, ints)
 
 pub nat_abs_mul : (x y : ℤ) → unsigned_abs (x *ℤ y) ≡ unsigned_abs x * unsigned_abs y
 nat_abs_mul (pos a) (pos b) = refl
-nat_abs_mul (pos a) (negsuc b) = natAbs_neg (a * suc b)
-nat_abs_mul (negsuc a) (pos b) = natAbs_neg (suc a * b)
+nat_abs_mul (pos a) (negsuc b) = nat_abs_neg (a * suc b)
+nat_abs_mul (negsuc a) (pos b) = nat_abs_neg (suc a * b)
 nat_abs_mul (negsuc a) (negsuc b) = refl
 
 product_size : (x y : ℤ) (a b : ℕ) → unsigned_abs x ≤ a → unsigned_abs y ≤ b → unsigned_abs (x *ℤ y) ≤ a * b

@@ -20,7 +20,7 @@ use Rattle.judges.specs.Sum.{sum_rows, sum_asks, sum_passes, sum_answer}
 use Rattle.judges.specs.Answering.{asked}
 use Rattle.judges.specs.Combined.{worth, weighted, weighted_is, coefficients_decide, totals_decide, totals_are}
 use Rattle.judges.specs.Division.{by_zero}
-use Rattle.judges.specs.Numbers.{leb_decides, leZ_decides, numbers_decide}
+use Rattle.judges.specs.Numbers.{leb_decides, le_z_decides, numbers_decide}
 use Rattle.judges.specs.Ring.{times_add, times_not_below}
 
 zero_from : (z : ℤ) → is_zero z ≡ true → z ≡ pos 0
@@ -35,7 +35,7 @@ sum_decides rows voucher BadVoucher = numbers_decide (pos 0) (length rows) vouch
 sum_decides rows voucher BadShape = (λ _. tt, λ _. refl)
 sum_decides rows voucher UnknownsLeft =
     Decides-like (each_coefficient is_zero rows voucher) (λ h u. zero_from (coefficient_of u rows voucher) (h u)) (λ h u. zero_to (coefficient_of u rows voucher) (h u)) (coefficients_decide is_zero refl rows voucher)
-sum_decides rows voucher NoConflict = leZ_decides (constant_of rows voucher) (negsuc 0)
+sum_decides rows voucher NoConflict = le_z_decides (constant_of rows voucher) (negsuc 0)
 
 -- the code's test of the totals, where 0 divides 0 alone
 pub totals_vanish : (table : List Total) (rows : List Row) (voucher : List ℤ) → table ≡ gathered [] rows voucher → each_total (divides (pos 0)) table ≡ sum_passes rows voucher UnknownsLeft

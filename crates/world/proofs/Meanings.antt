@@ -31,59 +31,59 @@ either_says false v b = (λ h. inr h, λ h. ⊎_elim (λ e. absurd (false≢true
 
 -- a quantifier over a class, with f the body
 module _ (class : ℕ) (f : List ℤ → Evaluation) where
-  abbrev Some-of : World → Type 0
-  Some-of w = (e : Element) × In e w × (e.class ≡ class) × ((f e.values).truth ≡ true)
+  abbrev SomeOf : World → Type 0
+  SomeOf w = (e : Element) × In e w × (e.class ≡ class) × ((f e.values).truth ≡ true)
 
-  abbrev All-of : World → Type 0
-  All-of w = (e : Element) → In e w → e.class ≡ class → (f e.values).truth ≡ true
+  abbrev AllOf : World → Type 0
+  AllOf w = (e : Element) → In e w → e.class ≡ class → (f e.values).truth ≡ true
 
-  later : (x : Element) (w : World) → Some-of w → Some-of (x ∷ w)
+  later : (x : Element) (w : World) → SomeOf w → SomeOf (x ∷ w)
   later x w s = (s.0, inr s.1, s.2, s.3)
 
   -- one element more, whose class is or is not the quantifier's, and of which the body is or is not true
-  some_next : (x : Element) (w : World) → ((tried true class f w).truth ≡ true → Some-of w) → (same : Bool) → eqb x.class class ≡ same → (t : Bool) → (f x.values).truth ≡ t → (tried true class f (x ∷ w)).truth ≡ true → Some-of (x ∷ w)
+  some_next : (x : Element) (w : World) → ((tried true class f w).truth ≡ true → SomeOf w) → (same : Bool) → eqb x.class class ≡ same → (t : Bool) → (f x.values).truth ≡ t → (tried true class f (x ∷ w)).truth ≡ true → SomeOf (x ∷ w)
   some_next x w rest true p true q h = (x, inl refl, eqb-true x.class class p, q)
   some_next x w rest true p false q h = later x w (rest (simp (p, q) at h))
   some_next x w rest false p t q h = later x w (rest (simp p at h))
 
-  some_from : (w : World) → (tried true class f w).truth ≡ true → Some-of w
+  some_from : (w : World) → (tried true class f w).truth ≡ true → SomeOf w
   some_from [] h = absurd (false≢true h)
   some_from (x ∷ w) h = some_next x w (some_from w) (eqb x.class class) refl (f x.values).truth refl h
 
   -- an element that is met already decides, or is still to come
-  some_found : (x : Element) (w : World) → (Some-of w → (tried true class f w).truth ≡ true) → (same : Bool) → eqb x.class class ≡ same → (t : Bool) → (f x.values).truth ≡ t → Some-of (x ∷ w) → (tried true class f (x ∷ w)).truth ≡ true
+  some_found : (x : Element) (w : World) → (SomeOf w → (tried true class f w).truth ≡ true) → (same : Bool) → eqb x.class class ≡ same → (t : Bool) → (f x.values).truth ≡ t → SomeOf (x ∷ w) → (tried true class f (x ∷ w)).truth ≡ true
   some_found x w rest true p true q s = simp (p, q)
   some_found x w rest true p false q s =
       simp (p, q) (⊎_elim (λ (e : x ≡ s.0). absurd (false≢true (sym q ∙ ap (λ (y : Element). (f y.values).truth) e ∙ s.3))) (λ m. rest (s.0, m, s.2, s.3)) s.1)
   some_found x w rest false p t q s =
       simp p (⊎_elim (λ (e : x ≡ s.0). absurd (eqb-false x.class class p (ap (λ (y : Element). y.class) e ∙ s.2))) (λ m. rest (s.0, m, s.2, s.3)) s.1)
 
-  some_to : (w : World) → Some-of w → (tried true class f w).truth ≡ true
+  some_to : (w : World) → SomeOf w → (tried true class f w).truth ≡ true
   some_to [] s = absurd s.1
   some_to (x ∷ w) s = some_found x w (some_to w) (eqb x.class class) refl (f x.values).truth refl s
 
-  pub some_says : (w : World) → ((tried true class f w).truth ≡ true) ⇔ Some-of w
+  pub some_says : (w : World) → ((tried true class f w).truth ≡ true) ⇔ SomeOf w
   some_says w = (some_from w, some_to w)
 
-  all_next : (x : Element) (w : World) → ((tried false class f w).truth ≡ true → All-of w) → (same : Bool) → eqb x.class class ≡ same → (t : Bool) → (f x.values).truth ≡ t → (tried false class f (x ∷ w)).truth ≡ true → All-of (x ∷ w)
+  all_next : (x : Element) (w : World) → ((tried false class f w).truth ≡ true → AllOf w) → (same : Bool) → eqb x.class class ≡ same → (t : Bool) → (f x.values).truth ≡ t → (tried false class f (x ∷ w)).truth ≡ true → AllOf (x ∷ w)
   all_next x w rest true p true q h e m is = ⊎_elim (λ (same : x ≡ e). ap (λ (y : Element). (f y.values).truth) (sym same) ∙ q) (λ k. rest (simp (p, q) at h) e k is) m
   all_next x w rest true p false q h e m is = absurd (false≢true (simp (p, q) at h))
   all_next x w rest false p t q h e m is = ⊎_elim (λ (same : x ≡ e). absurd (eqb-false x.class class p (ap (λ (y : Element). y.class) same ∙ is))) (λ k. rest (simp p at h) e k is) m
 
-  all_from : (w : World) → (tried false class f w).truth ≡ true → All-of w
+  all_from : (w : World) → (tried false class f w).truth ≡ true → AllOf w
   all_from [] h = λ e m is. absurd m
   all_from (x ∷ w) h = all_next x w (all_from w) (eqb x.class class) refl (f x.values).truth refl h
 
-  all_found : (x : Element) (w : World) → (All-of w → (tried false class f w).truth ≡ true) → (same : Bool) → eqb x.class class ≡ same → (t : Bool) → (f x.values).truth ≡ t → All-of (x ∷ w) → (tried false class f (x ∷ w)).truth ≡ true
+  all_found : (x : Element) (w : World) → (AllOf w → (tried false class f w).truth ≡ true) → (same : Bool) → eqb x.class class ≡ same → (t : Bool) → (f x.values).truth ≡ t → AllOf (x ∷ w) → (tried false class f (x ∷ w)).truth ≡ true
   all_found x w rest true p true q s = simp (p, q) (rest (λ e m is. s e (inr m) is))
   all_found x w rest true p false q s = absurd (false≢true (sym q ∙ s x (inl refl) (eqb-true x.class class p)))
   all_found x w rest false p t q s = simp p (rest (λ e m is. s e (inr m) is))
 
-  all_to : (w : World) → All-of w → (tried false class f w).truth ≡ true
+  all_to : (w : World) → AllOf w → (tried false class f w).truth ≡ true
   all_to [] s = refl
   all_to (x ∷ w) s = all_found x w (all_to w) (eqb x.class class) refl (f x.values).truth refl s
 
-  pub all_say : (w : World) → ((tried false class f w).truth ≡ true) ⇔ All-of w
+  pub all_say : (w : World) → ((tried false class f w).truth ≡ true) ⇔ AllOf w
   all_say w = (all_from w, all_to w)
 
 -- what is said of an evaluation, at an equal one

@@ -4,13 +4,13 @@ use Rattle.std.proofs.lemmas.Int.{ints, to_z-of_z}
 use Rattle.book.specs.Limits.{most_terms, largest_coefficient}
 use Rattle.world.specs.Worlds.{largest_value}
 
-natAbs_neg : (n : ℕ) → nat_abs (neg_ℤ (pos n)) ≡ n
-natAbs_neg n = omega (arith, ints)
+nat_abs_neg : (n : ℕ) → nat_abs (neg_ℤ (pos n)) ≡ n
+nat_abs_neg n = omega (arith, ints)
 
 nat_abs_mul : (x y : ℤ) → nat_abs (x *ℤ y) ≡ nat_abs x * nat_abs y
 nat_abs_mul (pos a) (pos b) = refl
-nat_abs_mul (pos a) (negsuc b) = natAbs_neg (a * suc b)
-nat_abs_mul (negsuc a) (pos b) = natAbs_neg (suc a * b)
+nat_abs_mul (pos a) (negsuc b) = nat_abs_neg (a * suc b)
+nat_abs_mul (negsuc a) (pos b) = nat_abs_neg (suc a * b)
 nat_abs_mul (negsuc a) (negsuc b) = refl
 
 fits_size : (z : ℤ) → nat_abs z < 2 ^ 63 → SFits w64 z

@@ -20,15 +20,15 @@ module _ (nodes : List Node) (w : World) where
   Holds n = True nodes w n nothing
 
   -- each premise among xs, whose first has number n, is true
-  abbrev All-true : ℕ → List Node → Type 0
-  All-true n xs = (j : ℕ) → j < length xs → (get_or xs j no_node).premise ≡ true → Holds (n + j)
+  abbrev AllTrue : ℕ → List Node → Type 0
+  AllTrue n xs = (j : ℕ) → j < length xs → (get_or xs j no_node).premise ≡ true → Holds (n + j)
 
   -- the premise at j is false, and those before it are true
   abbrev First : ℕ → List Node → ℕ → Type 0
   First n xs p = (j : ℕ) × (p ≡ n + j) × (j < length xs) × ((get_or xs j no_node).premise ≡ true) × (Holds p → ⊥) × ((i : ℕ) → i < j → (get_or xs i no_node).premise ≡ true → Holds (n + i))
 
   -- one node more in front
-  all_more : (n : ℕ) (x : Node) (xs : List Node) → (x.premise ≡ true → Holds n) → All-true (n + 1) xs → All-true n (x ∷ xs)
+  all_more : (n : ℕ) (x : Node) (xs : List Node) → (x.premise ≡ true → Holds n) → AllTrue (n + 1) xs → AllTrue n (x ∷ xs)
   all_more n x xs here rest zero l m = let e : n ≡ n + 0 = omega arith in subst Holds e (here m)
   all_more n x xs here rest (suc j) l m = let e : n + 1 + j ≡ n + suc j = omega arith in subst Holds e (rest j (omega arith) m)
 
@@ -41,7 +41,7 @@ module _ (nodes : List Node) (w : World) where
 
   -- what a verdict says of the nodes from number n on
   abbrev Means : ℕ → List Node → Verdict → Type 0
-  Means n xs Yes = All-true n xs
+  Means n xs Yes = AllTrue n xs
   Means n xs (No p) = First n xs p
 
   means_more : (n : ℕ) (x : Node) (xs : List Node) (v : Verdict) → (x.premise ≡ true → Holds n) → Means (n + 1) xs v → Means n (x ∷ xs) v
@@ -71,7 +71,7 @@ module _ (nodes : List Node) (w : World) where
   verdict_means = means 1 nodes
 
   -- node numbers are counted from 1
-  all_holds : All-true 1 nodes → (n : ℕ) → Premise nodes n → Holds n
+  all_holds : AllTrue 1 nodes → (n : ℕ) → Premise nodes n → Holds n
   all_holds all n p = let e : 1 + (n - 1) ≡ n = omega (arith, p.low) in subst Holds e (all (n - 1) (omega (arith, p.low, p.high)) p.marked)
 
   first_false : (p : ℕ) → First 1 nodes p → FirstFalse nodes w p
