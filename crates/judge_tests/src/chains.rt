@@ -7,7 +7,7 @@ use std::test::Fail;
 // A link in short: the unknown with 1, the one with -1, the constant, and whether the one with -1 stands first.
 type Link = (Unknown, Unknown, i64, bool);
 
-const RINGS: [(&str, &[Link], u32); 14] = [
+const RING_CASES: [(&str, &[Link], u32); 14] = [
     ("no rows", &[], 5),
     ("an unknown to itself", &[(U, U, -1, false)], 0),
     ("without conflict", &[(U, U, 0, false)], 5),
@@ -38,7 +38,7 @@ const RINGS: [(&str, &[Link], u32); 14] = [
 
 #[test]
 fn rings(rt: HostRuntime) -> Result<(), Fail> {
-    for (name, links, expected) in RINGS {
+    for (name, links, expected) in RING_CASES {
         let mut rows = [bare(0); 3];
         for (row, (x, y, constant, is_turned)) in rows.iter_mut().zip(links) {
             *row = if *is_turned {
@@ -53,7 +53,7 @@ fn rings(rt: HostRuntime) -> Result<(), Fail> {
     Ok(())
 }
 
-const SHAPES: [(&str, Relation, [Term; 3], usize); 9] = [
+const SHAPE_CASES: [(&str, Relation, [Term; 3], usize); 9] = [
     ("an equation", Relation::Equal, [PLUS_U, MINUS_U, PLUS_U], 2),
     ("no terms", Relation::AtLeast, [PLUS_U, MINUS_U, PLUS_U], 0),
     ("one term", Relation::AtLeast, [PLUS_U, MINUS_U, PLUS_U], 1),
@@ -83,7 +83,7 @@ const SHAPES: [(&str, Relation, [Term; 3], usize); 9] = [
 // A row of wrong shape: alone, after a good row, and with a voucher.
 #[test]
 fn shapes(rt: HostRuntime) -> Result<(), Fail> {
-    for (name, relation, terms, count) in SHAPES {
+    for (name, relation, terms, count) in SHAPE_CASES {
         let rows = [link(U, U, -1), row(relation, terms, count, -1)];
         answers(&rt, &name, &Chain, &rows[1..2], &[], 3)?;
         answers(&rt, &name, &Chain, &rows, &[], 3)?;

@@ -32,7 +32,7 @@ fn vouchers(rt: HostRuntime) -> Result<(), Fail> {
 // Equations in short: the coefficients of u and w, and the constant.
 type Equation = (i32, i32, i64);
 
-const REMAINDERS: [(&str, &[Equation], &[i32], u32); 10] = [
+const REMAINDER_CASES: [(&str, &[Equation], &[i32], u32); 10] = [
     ("no rows", &[], &[2], 5),
     ("2u - 2", &[(2, 0, -2)], &[2, 1], 5),
     (
@@ -52,7 +52,7 @@ const REMAINDERS: [(&str, &[Equation], &[i32], u32); 10] = [
 
 #[test]
 fn remainders(rt: HostRuntime) -> Result<(), Fail> {
-    for (name, equations, voucher, expected) in REMAINDERS {
+    for (name, equations, voucher, expected) in REMAINDER_CASES {
         let mut rows = [bare(0); 2];
         for (row, (a, b, constant)) in rows.iter_mut().zip(equations) {
             *row = equation(*a, *b, *constant);
