@@ -1,6 +1,7 @@
 -- Rows and causes as text.
 use Rattle.std.specs.Prelude.{ℕ, Bool, true, false, cond, List, [], ◌∷◌, ◌++◌, ℤ, pos, codes, decimal, ◌==◌, int_lt, unsigned_abs}
 use Rattle.std.specs.Fmt.{signed_decimal}
+use Rattle.std.specs.List.{flat_map}
 use Rattle.rows.specs.Meaning.{terms_of}
 use Rattle.rows.specs.Causes.{judge_cause_number}
 use Rattle.rows.specs.declared.cause.JudgeCause.{JudgeCause}
@@ -34,8 +35,7 @@ term_text first t = sign_text first (negative t.coefficient) ++ scaled_text (uns
 
 -- terms that stand after another
 abbrev pub more_terms_text : List Term → List ℕ
-more_terms_text [] = []
-more_terms_text (t ∷ ts) = term_text false t ++ more_terms_text ts
+more_terms_text ts = flat_map (term_text false) ts
 
 -- a constant after the terms; 0 is not written
 abbrev pub more_text : ℤ → List ℕ

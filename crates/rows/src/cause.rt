@@ -2,12 +2,12 @@
 
 #[derive(Clone, Copy, PartialEq, Eq, Debug)]
 pub enum JudgeCause {
-    TooManyRows,
+    TooManyRows = 1,
     // A voucher of wrong length, or a number of it out of range.
-    BadVoucher,
+    BadVoucher = 2,
     // A row that this judge does not take.
-    BadShape,
-    UnknownsLeft,
+    BadShape = 3,
+    UnknownsLeft = 4,
     // The constant that is left is no conflict.
-    NoConflict,
+    NoConflict = 5,
 }

@@ -1,20 +1,20 @@
 // Rows: what a conflict hands to a judge.
 
 // An attribute of one object line, by the line's number and the attribute's.
-#[derive(Clone, Copy)]
+#[derive(Clone, Copy, PartialEq, Eq, Default, Debug)]
 pub struct Unknown {
     pub object: u32,
     pub attribute: u32,
 }
 
 // One unknown may stand in several terms of a row.
-#[derive(Clone, Copy)]
+#[derive(Clone, Copy, PartialEq, Eq, Default, Debug)]
 pub struct Term {
     pub coefficient: i32,
     pub unknown: Unknown,
 }
 
-#[derive(Clone, Copy)]
+#[derive(Clone, Copy, PartialEq, Eq, Debug)]
 pub enum Relation {
     // 0 or more.
     AtLeast,

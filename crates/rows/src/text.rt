@@ -12,13 +12,7 @@ impl JudgeCause {
     pub fn number(&self) -> u32
         ensures { result ≡ judge_cause_number self.now }
     {
-        match *self {
-            JudgeCause::TooManyRows => 1,
-            JudgeCause::BadVoucher => 2,
-            JudgeCause::BadShape => 3,
-            JudgeCause::UnknownsLeft => 4,
-            JudgeCause::NoConflict => 5,
-        }
+        *self as u32
     }
 
     // What the number stands for, in words.
