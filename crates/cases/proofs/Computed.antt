@@ -1,11 +1,10 @@
 -- The worked cases, computed.
 use Rattle.std.proofs.Common.{◌≡◌, true, leb, List, [], ◌∷◌, length, sym, refl, subst, inr, arith, lit<, lit≤}
 use Rattle.std.proofs.lemmas.Bool.{leb-true}
-use Rattle.causes.specs.declared.cause.Cause.{Cause}
 use Rattle.book.specs.declared.parts.Class.{Class}
 use Rattle.book.specs.declared.parts.Node.{Node}
-use Rattle.book.specs.Rules.{depth_of, atom_ok, body_ok, node_ok, heads_ok, WellFormed, Fault, Refused}
-use Rattle.book.proofs.Tests.{holds_down, holds_by, never_both}
+use Rattle.book.specs.Rules.{depth_of, atom_ok, body_ok, node_ok, heads_ok, WellFormed, Fault}
+use Rattle.book.proofs.Tests.{holds_down, holds_by}
 use Rattle.world.specs.Truth.{worth, evaluated}
 use Rattle.world.specs.Worlds.{World, element_ok, element_at, most_elements}
 use Rattle.world.specs.Test.{tested, Testable}
@@ -65,10 +64,6 @@ worked_judge_cases_lem = record {
   sum_left = refl;
   sum_empty = refl;
 }
-
--- no call refuses a book that keeps the rules
-pub not_refused : (cs classes : List Class) (ns nodes : List Node) → cs ≡ classes → ns ≡ nodes → WellFormed classes nodes → (e : Cause) → Refused cs ns e → ⊥
-not_refused cs classes ns nodes p q ok e h = never_both classes nodes e ok (subst (λ xs. Refused xs nodes e) p (subst (λ ys. Refused cs ys e) q h))
 
 pub lawful_at : (cs classes : List Class) (ns nodes : List Node) → cs ≡ classes → ns ≡ nodes → WellFormed classes nodes → WellFormed cs ns
 lawful_at cs classes ns nodes p q ok = subst (λ xs. WellFormed xs ns) (sym p) (subst (λ ys. WellFormed classes ys) (sym q) ok)

@@ -2,7 +2,7 @@
 ghost use Rattle.std.specs.Prelude.{◌≡◌, ℕ, List, [], ◌∷◌, IfOk};
 ghost use Rattle.book.specs.Rules.{WellFormed};
 ghost use Rattle.book.specs.Whole.{classes_of, nodes_of, Making};
-ghost use Rattle.book.specs.declared.parts.Formula.TheVariants.{AtLeast, Exists, Every};
+ghost use Rattle.book.specs.declared.parts.Formula.TheVariants.{AtLeast};
 ghost use Rattle.cases.specs.Book.{example_classes_lem, example_nodes_lem, rule_nodes, one_class, nested_nodes_lem, always, times, in_slots_lem};
 
 use book::{Atom, Book, Class, Formula, Node, Term};
@@ -63,18 +63,6 @@ fn node(scope: [u32; 6], premise: bool, formula: Formula) -> Node
     }
 }
 
-fn exists(class: u32, body: u32) -> Formula
-    ensures { result ≡ Exists class body }
-{
-    Formula::Exists { class, body }
-}
-
-fn every(class: u32, body: u32) -> Formula
-    ensures { result ≡ Every class body }
-{
-    Formula::Every { class, body }
-}
-
 fn example_nodes() -> [Node; 6]
     ensures { result ≡ example_nodes_lem }
 {
@@ -83,11 +71,11 @@ fn example_nodes() -> [Node; 6]
     let none = in_slots(0, 0);
     [
         node(both, false, at_least(1, -1, 0)),
-        node(one, false, exists(GRANT, 1)),
-        node(none, true, every(OPENING, 2)),
+        node(one, false, Formula::Exists { class: GRANT, body: 1 }),
+        node(none, true, Formula::Every { class: OPENING, body: 2 }),
         node(both, false, at_least(-1, 1, -1)),
-        node(one, false, every(GRANT, 4)),
-        node(none, true, exists(OPENING, 5)),
+        node(one, false, Formula::Every { class: GRANT, body: 4 }),
+        node(none, true, Formula::Exists { class: OPENING, body: 5 }),
     ]
 }
 
@@ -98,10 +86,7 @@ fn lawful_book(heap: Global, classes: &[Class], nodes: &[Node]) -> Result<Book, 
 {
     let own_classes = Vec::from_slice(heap, classes)?;
     let own_nodes = Vec::from_slice(heap, nodes)?;
-    match Book::new(own_classes, own_nodes) {
-        Ok(book) => Ok(book),
-        Err(_) => unreachable(),
-    }
+    Ok(Book::new(own_classes, own_nodes).unwrap())
 }
 
 // The rule and the forbidden event.
@@ -126,7 +111,7 @@ fn nested_nodes(scope: [u32; 6]) -> [Node; 3]
     let always = always_true();
     [
         node([1, 1, 1, 1, 1, 1], false, always),
-        node(scope, false, exists(1, 1)),
+        node(scope, false, Formula::Exists { class: 1, body: 1 }),
         node(in_slots(0, 0), true, always),
     ]
 }

@@ -43,10 +43,7 @@ fn made(relation: Relation, terms: &[Term], constant: i64) -> Row
     requires { length terms.now ≤ most_terms }
     ensures { result ≡ row_of relation terms.now constant }
 {
-    match Row::new(relation, terms, constant) {
-        Some(row) => row,
-        None => unreachable(),
-    }
+    Row::new(relation, terms, constant).unwrap()
 }
 
 fn difference(plus: u32, minus: u32, constant: i64) -> Row

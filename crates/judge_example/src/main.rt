@@ -2,7 +2,7 @@
 #![tactic(auto)]
 
 use cases::{doubled, example_referee, in_a_ring, opposed};
-use judges::{Chain, Judge, Residue, Sum, referee};
+use judges::{Chain, Residue, Sum, referee};
 use rows::{JudgeCause, Row};
 use std::alloc::{AllocError, Global};
 use std::fmt;
@@ -49,22 +49,17 @@ fn show(
 // Rows and a voucher.
 type Question<'a> = (&'a [Row], &'a [i32]);
 
-fn ask<J: Judge>(
+// Each question, put to a judge.
+fn ask<F: Fn(&[Row], &[i32]) -> Result<(), JudgeCause>>(
     rt: &HostRuntime,
     name: &str,
-    judge: &J,
+    judge: F,
     questions: &[Question],
-) -> anyhow::Result<()> {
+) -> anyhow::Result<()>
+    requires { F.IsAlwaysCallable judge }
+{
     for (rows, voucher) in questions {
-        show(rt, name, rows, voucher, referee(judge, rows, voucher))?;
-    }
-    Ok(())
-}
-
-// The pair of the sum and the pair of the chain and the residue.
-fn ask_pair(rt: &HostRuntime, questions: &[Question]) -> anyhow::Result<()> {
-    for (rows, voucher) in questions {
-        show(rt, "pair", rows, voucher, example_referee(rows, voucher))?;
+        show(rt, name, rows, voucher, judge(rows, voucher))?;
     }
     Ok(())
 }
@@ -76,11 +71,16 @@ fn show_judges(rt: &HostRuntime) -> anyhow::Result<()> {
     )?;
     let rows = opposed();
     let odd = doubled(-1);
-    ask(rt, "sum", &Sum, &[(&rows, &[1, 1]), (&rows, &[1, -1])])?;
+    ask(
+        rt,
+        "sum",
+        |rows, voucher| referee(&Sum, rows, voucher),
+        &[(&rows, &[1, 1]), (&rows, &[1, -1])],
+    )?;
     ask(
         rt,
         "chain",
-        &Chain,
+        |rows, voucher| referee(&Chain, rows, voucher),
         &[
             (&rows, &[]),
             (&rows[0..1], &[]),
@@ -92,11 +92,13 @@ fn show_judges(rt: &HostRuntime) -> anyhow::Result<()> {
     ask(
         rt,
         "residue",
-        &Residue,
+        |rows, voucher| referee(&Residue, rows, voucher),
         &[(&odd, &[2, 1]), (&odd, &[1, 1]), (&doubled(-2), &[2, 1])],
     )?;
-    ask_pair(
+    ask(
         rt,
+        "pair",
+        |rows, voucher| example_referee(rows, voucher),
         &[
             (&rows, &[0, 1, 1]),
             (&rows, &[0, 1, 0]),
