@@ -1,7 +1,6 @@
 // A made book: one that keeps every rule, and stays so.
-ghost use Rattle.std.specs.Prelude.{◌≡◌, true, false, length, MatchOption, MatchResult};
-ghost use Rattle.book.specs.Lowest.{HoldsTo};
-ghost use Rattle.book.specs.Rules.{is_class, attributes_of, heads_ok, node_ok, WellFormed, Refused};
+ghost use Rattle.std.specs.Prelude.{◌≡◌, true, false, MatchOption, MatchResult};
+ghost use Rattle.book.specs.Rules.{is_class, attributes_of, WellFormed, Refused};
 
 use crate::parts::{Class, Node};
 use crate::rules::{attributes, inspect, known};
@@ -11,8 +10,7 @@ use causes::Cause;
 pub struct Book {
     classes: Vec<Class>,
     nodes: Vec<Node>,
-    ghost heads: { heads_ok classes.items nodes.items ≡ true },
-    ghost each: { HoldsTo (length nodes.items) (node_ok classes.items nodes.items) },
+    ghost rules: { WellFormed classes.items nodes.items },
 }
 
 impl Book {
