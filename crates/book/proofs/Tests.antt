@@ -1,14 +1,13 @@
 -- Tests that go along a list, one element a turn.
-use Rattle.std.proofs.Common.{◌≡◌, ℕ, zero, suc, ◌+◌, ◌<◌, ◌≤◌, Bool, true, false, cond, ◌&&◌, eqb, List, [], ◌∷◌, length, get_or, take, drop, not, ◌==◌, refl, Ok, Err, Decides, Result, sym, ap, ◌∙◌, subst, ⊎_elim, arith, rules, MatchResult}
+use Rattle.std.proofs.Common.{◌≡◌, ℕ, zero, suc, ◌+◌, ◌<◌, ◌≤◌, Bool, true, false, ◌&&◌, List, [], ◌∷◌, length, get_or, take, drop, not, ◌==◌, refl, Ok, Err, Result, sym, ap, ◌∙◌, subst, ⊎_elim, arith, MatchResult}
 use Rattle.std.proofs.lemmas.List.{at_drop_more, at_drop_all}
 use Rattle.std.proofs.lemmas.List.Sums.{prefix_len-le-length}
 use Rattle.std.proofs.Math.Bool.{and_assoc}
 use Rattle.std.proofs.Math.Numerals.{one-add}
 use Rattle.std.specs.List.{list_all}
-use Rattle.std.proofs.lemmas.Slice.Eq.{compares_Decides}
-use Rattle.std.proofs.lemmas.Bool.{eq-eqb, ne_eqb, and_parts, both_ways, cases_lt}
+use Rattle.std.proofs.lemmas.Bool.{and_parts, both_ways, cases_lt}
 use Rattle.std.proofs.lemmas.Bool.Decides.{nat_tests}
-use Rattle.book.specs.Rules.{depth_of, is_empty, slots_ok, same_scope_lem, is_class, heads_ok, node_ok, WellFormed, Refused}
+use Rattle.book.specs.Rules.{depth_of, is_empty, slots_ok, is_class, heads_ok, node_ok, WellFormed, Refused}
 use Rattle.causes.specs.declared.cause.Cause.{Cause}
 use Rattle.book.specs.Limits.{most_nodes}
 use Rattle.book.specs.Lowest.{HoldsTo}

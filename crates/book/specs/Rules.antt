@@ -1,5 +1,5 @@
 -- The rules of a book: when its classes, nodes and premises are well formed.
-use Rattle.std.specs.Prelude.{◌≡◌, ℕ, suc, ◌-◌, Bool, true, false, cond, not, ◌&&◌, ◌||◌, ◌⊎◌, List, [], ◌∷◌, map, length, get_or, take, pos, ◌==◌, nat_eq, nat_le, nat_lt, slice_index, slice_index_or, slice_set, unsigned_abs}
+use Rattle.std.specs.Prelude.{◌≡◌, ℕ, ◌-◌, Bool, true, false, cond, not, ◌&&◌, ◌||◌, ◌⊎◌, List, [], ◌∷◌, map, length, get_or, take, pos, ◌==◌, nat_eq, nat_le, nat_lt, slice_index, slice_index_or, slice_set, unsigned_abs}
 use Rattle.std.specs.Cmp.Lexicographic.{pointwise}
 use Rattle.std.specs.List.{list_all, list_any, position_or_len}
 use Rattle.causes.specs.declared.cause.Cause.{Cause}

@@ -1,8 +1,7 @@
 // The rules of a book, tested one by one.
-ghost use Rattle.std.specs.Prelude.{◌≡◌, ℕ, ◌+◌, ◌-◌, ◌<◌, ◌≤◌, true, false, not, ◌&&◌, ◌||◌, length, MatchOption, MatchResult, slice_index_or};
+ghost use Rattle.std.specs.Prelude.{◌≡◌, ◌+◌, ◌-◌, true, false, ◌&&◌, length, MatchOption, MatchResult, slice_index_or};
 ghost use Rattle.std.specs.List.{list_all};
-ghost use Rattle.book.specs.Lowest.{HoldsTo, Lowest};
-ghost use Rattle.book.specs.Rules.{from_to_lem, is_class, attributes_of, depth_of, is_empty, slots_ok, scope_ok, term_ok, terms_ok, classes_ok, some_premise, premises_ok, atom_ok, child_ok, body_ok, formula_ok, heads_ok, WellFormed, Refused};
+ghost use Rattle.book.specs.Rules.{from_to_lem, is_class, attributes_of, classes_ok, depth_of, is_empty, scope_ok, term_ok, terms_ok, atom_ok, child_ok, body_ok, formula_ok, some_premise, premises_ok, heads_ok, WellFormed, Refused};
 
 use crate::parts::{Atom, Class, Formula, Node, Term};
 use causes::Cause;
@@ -83,8 +82,8 @@ impl Place<'_> {
     fn scope_fits(&self) -> bool
         ensures { result ≡ scope_ok self.now.classes.now self.now.scope }
     {
-        let (used, rest) = self.scope.split_at(used(&self.scope));
-        all_known(self.classes, used) && empty(rest)
+        let (front, rest) = self.scope.split_at(used(&self.scope));
+        all_known(self.classes, front) && empty(rest)
     }
 
     #[tactic(auto, using(crate::proofs::Tests::depth_le))]
