@@ -1,10 +1,13 @@
 -- Tests that go along a list, one element a turn.
-use Rattle.std.proofs.Common.{◌≡◌, ℕ, zero, suc, ◌+◌, ◌<◌, ◌≤◌, Bool, true, false, cond, ◌&&◌, eqb, List, [], ◌∷◌, length, get_or, drop, Ok, Err, Decides, Result, ap, ◌∙◌, subst, ⊎_elim, arith, rules, MatchResult}
+use Rattle.std.proofs.Common.{◌≡◌, ℕ, zero, suc, ◌+◌, ◌<◌, ◌≤◌, Bool, true, false, ◌&&◌, List, [], ◌∷◌, length, get_or, take, drop, not, ◌==◌, refl, Ok, Err, Result, sym, ap, ◌∙◌, subst, ⊎_elim, arith, MatchResult}
 use Rattle.std.proofs.lemmas.List.{at_drop_more, at_drop_all}
-use Rattle.std.proofs.lemmas.Slice.Eq.{compares_Decides}
-use Rattle.std.proofs.lemmas.Bool.{eq-eqb, ne_eqb, and_parts, both_ways, cases_lt}
+use Rattle.std.proofs.lemmas.List.Sums.{prefix_len-le-length}
+use Rattle.std.proofs.Math.Bool.{and_assoc}
+use Rattle.std.proofs.Math.Numerals.{one-add}
+use Rattle.std.specs.List.{list_all}
+use Rattle.std.proofs.lemmas.Bool.{and_parts, both_ways, cases_lt}
 use Rattle.std.proofs.lemmas.Bool.Decides.{nat_tests}
-use Rattle.book.specs.Rules.{depth_of, is_empty, slots_ok, same_scope_lem, is_class, heads_ok, node_ok, WellFormed, Refused}
+use Rattle.book.specs.Rules.{depth_of, is_empty, slots_ok, is_class, heads_ok, node_ok, WellFormed, Refused}
 use Rattle.causes.specs.declared.cause.Cause.{Cause}
 use Rattle.book.specs.Limits.{most_nodes}
 use Rattle.book.specs.Lowest.{HoldsTo}
@@ -27,54 +30,19 @@ module _ {X : Type 0} (p : X → Bool) (F : List X → Bool) (none : F [] ≡ tr
   pub all_fails : i < length xs → p (get_or xs i d) ≡ false → F xs ≡ false
   all_fails l h = next l ∙ ap (λ b. b && F (drop (i + 1) xs)) h
 
--- the depth of a scope, slot by slot
-module _ (scope : List ℕ) (i : ℕ) (at : depth_of scope ≡ i + depth_of (drop i scope)) where
-  depth_next : i < length scope → depth_of (drop i scope) ≡ cond (eqb (get_or scope i 0) 0) 0 (suc (depth_of (drop (i + 1) scope)))
-  unfolding depth_of
-  depth_next l = at_drop_more depth_of scope i 0 l
-
-  pub depth_all : length scope ≤ i → depth_of scope ≡ i
-  unfolding depth_of
-  depth_all l = let e : depth_of (drop i scope) ≡ 0 = at_drop_all depth_of scope i l in omega (arith, e, at)
-
-  pub depth_more : i < length scope → (get_or scope i 0 ≡ 0 → ⊥) → depth_of scope ≡ (i + 1) + depth_of (drop (i + 1) scope)
-  depth_more l ne =
-      let e : depth_of (drop i scope) ≡ suc (depth_of (drop (i + 1) scope)) = depth_next l ∙ ap (λ b. cond b 0 (suc (depth_of (drop (i + 1) scope)))) (ne_eqb (get_or scope i 0) 0 ne) in
-      omega (arith, e, at)
-
-  pub depth_here : i < length scope → get_or scope i 0 ≡ 0 → depth_of scope ≡ i
-  depth_here l is =
-      let e : depth_of (drop i scope) ≡ 0 = depth_next l ∙ ap (λ b. cond b 0 (suc (depth_of (drop (i + 1) scope)))) (eq-eqb (get_or scope i 0) 0 is) in
-      omega (arith, e, at)
-
--- a scope that is used up to slot i
-module _ (classes : List Class) (scope : List ℕ) (i : ℕ) (at : slots_ok classes scope ≡ slots_ok classes (drop i scope)) where
-  scope_next : i < length scope → slots_ok classes scope ≡ cond (eqb (get_or scope i 0) 0) (is_empty (drop (i + 1) scope)) (is_class classes (get_or scope i 0) && slots_ok classes (drop (i + 1) scope))
-  scope_next l = at ∙ at_drop_more (slots_ok classes) scope i 0 l
-
-  pub scope_all : length scope ≤ i → slots_ok classes scope ≡ true
-  scope_all l = at ∙ at_drop_all (slots_ok classes) scope i l
-
-  pub scope_rest : i < length scope → get_or scope i 0 ≡ 0 → slots_ok classes scope ≡ is_empty (drop (i + 1) scope)
-  scope_rest l is = scope_next l ∙ ap (λ b. cond b (is_empty (drop (i + 1) scope)) (is_class classes (get_or scope i 0) && slots_ok classes (drop (i + 1) scope))) (eq-eqb (get_or scope i 0) 0 is)
-
-  module _ (l : i < length scope) (ne : get_or scope i 0 ≡ 0 → ⊥) where
-    used_next : slots_ok classes scope ≡ (is_class classes (get_or scope i 0) && slots_ok classes (drop (i + 1) scope))
-    used_next = scope_next l ∙ ap (λ b. cond b (is_empty (drop (i + 1) scope)) (is_class classes (get_or scope i 0) && slots_ok classes (drop (i + 1) scope))) (ne_eqb (get_or scope i 0) 0 ne)
-
-    pub scope_more : is_class classes (get_or scope i 0) ≡ true → slots_ok classes scope ≡ slots_ok classes (drop (i + 1) scope)
-    scope_more h = used_next ∙ ap (λ b. b && slots_ok classes (drop (i + 1) scope)) h
-
-    pub scope_fails : is_class classes (get_or scope i 0) ≡ false → slots_ok classes scope ≡ false
-    scope_fails h = used_next ∙ ap (λ b. b && slots_ok classes (drop (i + 1) scope)) h
-
 pub depth_le : (scope : List ℕ) → depth_of scope ≤ length scope
 unfolding depth_of
-depth_le [] = omega arith
-depth_le (c ∷ cs) = let h = depth_le cs in grind (arith, nat_tests)
+depth_le scope = prefix_len-le-length (λ c. not (c == 0)) scope
 
-pub same_scope_decides : (xs ys : List ℕ) → Decides (same_scope_lem xs ys) (xs ≡ ys)
-same_scope_decides xs ys = compares_Decides same_scope_lem (search rules) xs ys
+-- a scope by its used slots and the rest
+pub slots_split : (classes : List Class) (scope : List ℕ) → slots_ok classes scope ≡ (list_all (is_class classes) (take (depth_of scope) scope) && is_empty (drop (depth_of scope) scope))
+unfolding depth_of
+slots_split classes [] = refl
+slots_split classes (c ∷ cs) = at (slots_split classes cs) (c == 0) refl
+  where
+    at : slots_ok classes cs ≡ (list_all (is_class classes) (take (depth_of cs) cs) && is_empty (drop (depth_of cs) cs)) → (b : Bool) → (c == 0) ≡ b → slots_ok classes (c ∷ cs) ≡ (list_all (is_class classes) (take (depth_of (c ∷ cs)) (c ∷ cs)) && is_empty (drop (depth_of (c ∷ cs)) (c ∷ cs)))
+    at h true e = simp e
+    at h false e = simp (e, one-add) (ap (λ b. is_class classes c && b) h ∙ sym (and_assoc (is_class classes c) _ _))
 
 pub heads_few : (classes : List Class) (nodes : List Node) → heads_ok classes nodes ≡ true → length nodes ≤ most_nodes
 unfolding heads_ok

@@ -1,5 +1,7 @@
 -- The rules of a book: when its classes, nodes and premises are well formed.
-use Rattle.std.specs.Prelude.{◌≡◌, ℕ, suc, ◌-◌, Bool, true, false, cond, not, ◌&&◌, ◌||◌, ◌⊎◌, List, [], ◌∷◌, map, length, get_or, take, pos, ◌==◌, nat_le, nat_lt, slice_index, slice_index_or, slice_set, unsigned_abs}
+use Rattle.std.specs.Prelude.{◌≡◌, ℕ, ◌-◌, Bool, true, false, cond, not, ◌&&◌, ◌||◌, ◌⊎◌, List, [], ◌∷◌, map, length, get_or, take, pos, ◌==◌, nat_eq, nat_le, nat_lt, slice_index, slice_index_or, slice_set, unsigned_abs}
+use Rattle.std.specs.Cmp.Lexicographic.{pointwise}
+use Rattle.std.specs.List.{list_all, list_any, position_or_len}
 use Rattle.causes.specs.declared.cause.Cause.{Cause}
 use Rattle.causes.specs.declared.cause.Cause.TheVariants.{BadBook}
 use Rattle.book.specs.Limits.{most_classes, most_attributes, most_nodes, most_terms, slot_count, largest_coefficient, largest_constant}
@@ -30,17 +32,14 @@ abbrev pub class_ok : Class → Bool
 class_ok c = from_to_lem 1 most_attributes c.attributes
 
 abbrev pub classes_ok : List Class → Bool
-classes_ok [] = true
-classes_ok (c ∷ cs) = class_ok c && classes_ok cs
+classes_ok classes = list_all class_ok classes
 
 -- A scope's depth is its count of used slots: those before the first 0.
 unfoldable pub depth_of : List ℕ → ℕ
-depth_of [] = 0
-depth_of (c ∷ cs) = cond (c == 0) 0 (suc (depth_of cs))
+depth_of scope = position_or_len (λ c. c == 0) scope
 
 abbrev pub is_empty : List ℕ → Bool
-is_empty [] = true
-is_empty (c ∷ cs) = c == 0 && is_empty cs
+is_empty scope = list_all (λ c. c == 0) scope
 
 -- used slots first, with a class in each, and 0 in the rest
 abbrev pub slots_ok : List Class → List ℕ → Bool
@@ -52,10 +51,7 @@ abbrev pub scope_ok : List Class → List ℕ → Bool
 scope_ok classes scope = length scope == slot_count && slots_ok classes scope
 
 abbrev pub same_scope_lem : List ℕ → List ℕ → Bool
-same_scope_lem [] [] = true
-same_scope_lem [] (y ∷ ys) = false
-same_scope_lem (x ∷ xs) [] = false
-same_scope_lem (x ∷ xs) (y ∷ ys) = x == y && same_scope_lem xs ys
+same_scope_lem xs ys = pointwise nat_eq xs ys
 
 -- a coefficient within its limit, a used slot, an attribute of that slot's class
 abbrev pub term_ok : List Class → List ℕ → Term → Bool
@@ -63,8 +59,7 @@ term_ok classes scope t =
     nat_le (unsigned_abs t.coefficient) largest_coefficient && (nat_lt t.slot (depth_of scope) && nat_lt t.attribute (attributes_of classes (slice_index scope t.slot)))
 
 abbrev pub terms_ok : List Class → List ℕ → List Term → Bool
-terms_ok classes scope [] = true
-terms_ok classes scope (t ∷ ts) = term_ok classes scope t && terms_ok classes scope ts
+terms_ok classes scope ts = list_all (term_ok classes scope) ts
 
 -- An atom's terms are the first `count` of its places.
 abbrev pub terms_of : Atom → List Term
@@ -112,16 +107,14 @@ unfoldable pub node_ok : List Class → List Node → ℕ → Bool
 node_ok classes nodes n = scope_ok classes (node_at nodes n).scope && formula_ok classes nodes n (node_at nodes n).scope (node_at nodes n).formula
 
 abbrev pub some_premise : List Node → Bool
-some_premise [] = false
-some_premise (x ∷ xs) = x.premise || some_premise xs
+some_premise nodes = list_any (λ x. x.premise) nodes
 
 -- each premise has an empty scope
 abbrev pub premise_ok : Node → Bool
 premise_ok x = not x.premise || is_empty x.scope
 
 abbrev pub premises_ok : List Node → Bool
-premises_ok [] = true
-premises_ok (x ∷ xs) = premise_ok x && premises_ok xs
+premises_ok nodes = list_all premise_ok nodes
 
 -- the counts of classes, attributes and nodes, and the premise marks
 abbrev pub counts_ok : List Class → List Node → Bool

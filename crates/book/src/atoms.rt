@@ -1,8 +1,9 @@
 // An atom from a list of terms.
-ghost use Rattle.std.specs.Prelude.{◌≡◌, length, slice_index_or};
-ghost use Rattle.book.specs.Rules.{no_term, places_of};
+ghost use Rattle.std.specs.Prelude.{◌≡◌, length};
+ghost use Rattle.book.specs.Rules.{places_of};
 
 use crate::parts::{Atom, Term};
+use std::array;
 
 impl Atom {
     // An atom has places for eight terms. One that is made of more keeps their count, so that its node is bad.
@@ -11,33 +12,10 @@ impl Atom {
         ensures places { result.terms ≡ places_of terms.now }
         ensures constant { result.constant ≡ constant }
     {
-        let places = [
-            term_at(terms, 0),
-            term_at(terms, 1),
-            term_at(terms, 2),
-            term_at(terms, 3),
-            term_at(terms, 4),
-            term_at(terms, 5),
-            term_at(terms, 6),
-            term_at(terms, 7),
-        ];
         Atom {
-            terms: places,
+            terms: array::from_fn(|i| terms.get(i).copied().unwrap_or_default()),
             count: terms.len(),
             constant,
         }
-    }
-}
-
-fn term_at(terms: &[Term], i: usize) -> Term
-    ensures { result ≡ slice_index_or terms.now i no_term }
-{
-    match terms.get(i) {
-        Some(term) => *term,
-        None => Term {
-            coefficient: 0,
-            slot: 0,
-            attribute: 0,
-        },
     }
 }

@@ -1,13 +1,13 @@
 // The parts of a book, as they are handed in: nothing is claimed of them until a book is made.
 
 // A class of elements, by its count of attributes. Classes are numbered from 1, attributes from 0.
-#[derive(Clone, Copy)]
+#[derive(Clone, Copy, PartialEq, Eq, Debug)]
 pub struct Class {
     pub attributes: u32,
 }
 
 // A coefficient times an attribute of the element in a slot.
-#[derive(Clone, Copy)]
+#[derive(Clone, Copy, PartialEq, Eq, Default, Debug)]
 pub struct Term {
     pub coefficient: i32,
     pub slot: u32,
@@ -15,7 +15,7 @@ pub struct Term {
 }
 
 // The sum of the first `count` terms, plus the constant.
-#[derive(Clone, Copy)]
+#[derive(Clone, Copy, PartialEq, Eq, Debug)]
 pub struct Atom {
     pub terms: [Term; 8],
     pub count: usize,
@@ -23,7 +23,7 @@ pub struct Atom {
 }
 
 // Children and bodies are node numbers.
-#[derive(Clone, Copy)]
+#[derive(Clone, Copy, PartialEq, Eq, Debug)]
 pub enum Formula {
     // 0 or more.
     AtLeast(Atom),
@@ -36,7 +36,7 @@ pub enum Formula {
 }
 
 // The scope has a class number in each used slot, which come first, and 0 in the others.
-#[derive(Clone, Copy)]
+#[derive(Clone, Copy, PartialEq, Eq, Debug)]
 pub struct Node {
     pub scope: [u32; 6],
     pub premise: bool,

@@ -1,15 +1,14 @@
 // The rules of a book, tested one by one.
-ghost use Rattle.std.specs.Prelude.{◌≡◌, ℕ, ◌+◌, ◌-◌, ◌<◌, ◌≤◌, true, not, ◌||◌, length, MatchResult, nat_le, unsigned_abs};
-ghost use Rattle.book.specs.Limits.{largest_constant};
-ghost use Rattle.book.specs.Lowest.{HoldsTo, Lowest};
-ghost use Rattle.book.specs.Rules.{from_to_lem, is_class, attributes_of, class_ok, classes_ok, depth_of, is_empty, slots_ok, scope_ok, same_scope_lem, term_ok, terms_ok, atom_ok, child_ok, body_ok, formula_ok, node_ok, some_premise, premise_ok, premises_ok, counts_ok, marks_ok, heads_ok, no_node, WellFormed, Refused};
+ghost use Rattle.std.specs.Prelude.{◌≡◌, ◌+◌, ◌-◌, true, false, ◌&&◌, length, MatchOption, MatchResult, slice_index_or};
+ghost use Rattle.std.specs.List.{list_all};
+ghost use Rattle.book.specs.Rules.{from_to_lem, is_class, attributes_of, classes_ok, depth_of, is_empty, scope_ok, term_ok, terms_ok, atom_ok, child_ok, body_ok, formula_ok, some_premise, premises_ok, heads_ok, WellFormed, Refused};
 
 use crate::parts::{Atom, Class, Formula, Node, Term};
 use causes::Cause;
 
 const MOST_CLASSES: usize = 32;
 
-const MOST_ATTRIBUTES: usize = 8;
+const MOST_ATTRIBUTES: u32 = 8;
 
 const MOST_NODES: usize = 4096;
 
@@ -17,9 +16,9 @@ const MOST_TERMS: usize = 8;
 
 const SLOTS: usize = 6;
 
-const LARGEST_COEFFICIENT: i32 = 32_767;
+const LARGEST_COEFFICIENT: u32 = 32_767;
 
-const LARGEST_CONSTANT: i32 = 2_147_483_647;
+const LARGEST_CONSTANT: u32 = 2_147_483_647;
 
 impl Node {
     // How many slots of its scope are used.
@@ -31,249 +30,178 @@ impl Node {
 }
 
 // The used slots are those before the first 0.
+#[tactic(auto, unfolding(crate::specs::Rules::depth_of))]
 fn used(scope: &[u32]) -> usize
     ensures { result ≡ depth_of scope.now }
 {
-    for (i, class) in scope.iter().enumerate() {
-        if *class == 0 {
-            return i;
-        }
-    }
-    scope.len()
+    scope.iter().take_while(|class| **class != 0).count()
 }
 
 fn empty(scope: &[u32]) -> bool
     ensures { result ≡ is_empty scope.now }
 {
-    for class in scope {
-        if *class != 0 {
-            return false;
-        }
-    }
-    true
+    scope.iter().all(|class| *class == 0)
 }
 
-fn from_to(low: usize, high: usize, n: usize) -> bool
-    ensures { result ≡ from_to_lem low high n }
+// Classes and nodes are numbered from 1.
+fn numbered<T>(items: &[T], n: u32) -> Option<&T>
+    ensures { MatchOption result (from_to_lem 1 (length items.now) n ≡ false) (λ x. (from_to_lem 1 (length items.now) n ≡ true) × (x.now ≡ slice_index_or items.now (n - 1) x.now)) }
 {
-    low <= n && n <= high
+    items.get((n as usize).checked_sub(1)?)
 }
 
-pub(crate) fn known(classes: &[Class], class: u32) -> bool
+fn known(classes: &[Class], class: u32) -> bool
     ensures { result ≡ is_class classes.now class }
 {
-    from_to(1, classes.len(), class as usize)
+    numbered(classes, class).is_some()
 }
 
-fn slots_fit(classes: &[Class], scope: &[u32]) -> bool
-    ensures { result ≡ slots_ok classes.now scope.now }
+fn all_known(classes: &[Class], scope: &[u32]) -> bool
+    ensures { result ≡ list_all (is_class classes.now) scope.now }
 {
-    for i in 0..scope.len() {
-        if scope[i] == 0 {
-            return empty(&scope[i + 1..]);
-        }
-        if !known(classes, scope[i]) {
-            return false;
-        }
-    }
-    true
+    scope.iter().all(|class| known(classes, *class))
 }
 
-fn scope_fits(classes: &[Class], scope: &[u32; 6]) -> bool
-    ensures { result ≡ scope_ok classes.now scope.now }
+// How many attributes a class has.
+pub(crate) fn attributes(classes: &[Class], class: u32) -> Option<u32>
+    ensures { MatchOption result (is_class classes.now class ≡ false) (λ k. (is_class classes.now class ≡ true) × (k ≡ attributes_of classes.now class)) }
 {
-    slots_fit(classes, scope)
+    numbered(classes, class).map(|class| class.attributes)
 }
 
-// How many attributes a class has; 0 where there is no such class.
-pub(crate) fn attributes(classes: &[Class], class: u32) -> u32
-    ensures { result ≡ attributes_of classes.now class }
-{
-    if known(classes, class) {
-        classes[class as usize - 1].attributes
-    } else {
-        0
-    }
+// Where a node stands: the classes, the nodes before it, and its scope.
+#[derive(Clone, Copy)]
+struct Place<'a> {
+    classes: &'a [Class],
+    lower: &'a [Node],
+    scope: [u32; 6],
 }
 
-fn term_fits(classes: &[Class], scope: &[u32], t: &Term) -> bool
-    ensures { result ≡ term_ok classes.now scope.now t.now }
-{
-    let slot = t.slot as usize;
-    if t.coefficient < -LARGEST_COEFFICIENT
-        || t.coefficient > LARGEST_COEFFICIENT
-        || slot >= used(scope)
+impl Place<'_> {
+    #[tactic(auto, using(crate::proofs::Tests::depth_le, crate::proofs::Tests::slots_split))]
+    fn scope_fits(&self) -> bool
+        ensures { result ≡ scope_ok self.now.classes.now self.now.scope }
     {
-        return false;
+        let (front, rest) = self.scope.split_at(used(&self.scope));
+        all_known(self.classes, front) && empty(rest)
     }
-    t.attribute < attributes(classes, scope[slot])
-}
 
-fn terms_fit(classes: &[Class], scope: &[u32], terms: &[Term]) -> bool
-    ensures { result ≡ terms_ok classes.now scope.now terms.now }
-{
-    for t in terms {
-        if !term_fits(classes, scope, t) {
+    #[tactic(auto, using(crate::proofs::Tests::depth_le))]
+    fn term_fits(&self, t: &Term) -> bool
+        ensures { result ≡ term_ok self.now.classes.now self.now.scope t.now }
+    {
+        let slot = t.slot as usize;
+        t.coefficient.unsigned_abs() <= LARGEST_COEFFICIENT
+            && slot < used(&self.scope)
+            && attributes(self.classes, self.scope[slot]).is_some_and(|count| t.attribute < count)
+    }
+
+    fn terms_fit(&self, terms: &[Term]) -> bool
+        ensures { result ≡ terms_ok self.now.classes.now self.now.scope terms.now }
+    {
+        terms.iter().all(|t| self.term_fits(t))
+    }
+
+    #[tactic(auto, unfolding(crate::specs::Rules::atom_ok))]
+    fn atom_fits(&self, a: &Atom) -> bool
+        ensures { result ≡ atom_ok self.now.classes.now self.now.scope a.now }
+    {
+        a.count <= MOST_TERMS
+            && self.terms_fit(&a.terms[..a.count])
+            && a.constant.unsigned_abs() <= LARGEST_CONSTANT
+    }
+
+    fn child_fits(&self, k: u32) -> bool
+        ensures { result ≡ child_ok self.now.lower.now (length self.now.lower.now + 1) self.now.scope k }
+    {
+        let Some(node) = numbered(self.lower, k) else {
+            return false;
+        };
+        node.scope == self.scope
+    }
+
+    #[tactic(auto, unfolding(crate::specs::Rules::body_ok))]
+    fn body_fits(&self, class: u32, body: u32) -> bool
+        ensures { result ≡ body_ok self.now.classes.now self.now.lower.now (length self.now.lower.now + 1) self.now.scope class body }
+    {
+        let d = used(&self.scope);
+        if d >= SLOTS {
             return false;
         }
+        let mut wider = *self;
+        wider.scope[d] = class;
+        known(self.classes, class) && wider.child_fits(body)
     }
-    true
-}
 
-fn constant_fits(constant: i32) -> bool
-    ensures { result ≡ nat_le (unsigned_abs constant) largest_constant }
-{
-    constant >= -LARGEST_CONSTANT
-}
-
-fn atom_fits(classes: &[Class], scope: &[u32], a: &Atom) -> bool
-    ensures { result ≡ atom_ok classes.now scope.now a.now }
-{
-    if a.count > MOST_TERMS {
-        return false;
-    }
-    terms_fit(classes, scope, &a.terms[0..a.count]) && constant_fits(a.constant)
-}
-
-fn same_scope(a: &[u32; 6], b: &[u32; 6]) -> bool
-    ensures { result ≡ same_scope_lem a.now b.now }
-{
-    *a == *b
-}
-
-fn child_fits(nodes: &[Node], n: u32, scope: &[u32; 6], k: u32) -> bool
-    requires { n ≤ length nodes.now }
-    ensures { result ≡ child_ok nodes.now n scope.now k }
-{
-    1 <= k && k < n && same_scope(&nodes[k as usize - 1].scope, scope)
-}
-
-fn body_fits(
-    classes: &[Class],
-    nodes: &[Node],
-    n: u32,
-    scope: &[u32; 6],
-    class: u32,
-    body: u32,
-) -> bool
-    requires { n ≤ length nodes.now }
-    ensures { result ≡ body_ok classes.now nodes.now n scope.now class body }
-{
-    let d = used(scope);
-    if d >= SLOTS {
-        return false;
-    }
-    let mut wider = *scope;
-    wider[d] = class;
-    known(classes, class) && child_fits(nodes, n, &wider, body)
-}
-
-fn formula_fits(
-    classes: &[Class],
-    nodes: &[Node],
-    n: u32,
-    scope: &[u32; 6],
-    formula: &Formula,
-) -> bool
-    requires { n ≤ length nodes.now }
-    ensures { result ≡ formula_ok classes.now nodes.now n scope.now formula.now }
-{
-    match formula {
-        Formula::AtLeast(a) | Formula::Equal(a) => atom_fits(classes, scope, a),
-        Formula::And { left, right } | Formula::Or { left, right } => {
-            child_fits(nodes, n, scope, *left) && child_fits(nodes, n, scope, *right)
-        }
-        Formula::Exists { class, body } | Formula::Every { class, body } => {
-            body_fits(classes, nodes, n, scope, *class, *body)
+    fn formula_fits(&self, formula: &Formula) -> bool
+        ensures { result ≡ formula_ok self.now.classes.now self.now.lower.now (length self.now.lower.now + 1) self.now.scope formula.now }
+    {
+        match formula {
+            Formula::AtLeast(a) | Formula::Equal(a) => self.atom_fits(a),
+            Formula::And { left, right } | Formula::Or { left, right } => {
+                self.child_fits(*left) && self.child_fits(*right)
+            }
+            Formula::Exists { class, body } | Formula::Every { class, body } => {
+                self.body_fits(*class, *body)
+            }
         }
     }
 }
 
-// Whether node n keeps the rules of a node.
-fn node_fits(classes: &[Class], nodes: &[Node], n: u32) -> bool
-    requires low { 1 ≤ n }
-    requires high { n ≤ length nodes.now }
-    ensures { result ≡ node_ok classes.now nodes.now n }
+fn node_fits(classes: &[Class], lower: &[Node], node: &Node) -> bool
+    ensures { result ≡ (scope_ok classes.now node.now.scope && formula_ok classes.now lower.now (length lower.now + 1) node.now.scope node.now.formula) }
 {
-    let node = &nodes[n as usize - 1];
-    scope_fits(classes, &node.scope) && formula_fits(classes, nodes, n, &node.scope, &node.formula)
-}
-
-fn class_fits(class: &Class) -> bool
-    ensures { result ≡ class_ok class.now }
-{
-    from_to(1, MOST_ATTRIBUTES, class.attributes as usize)
+    let place = Place {
+        classes,
+        lower,
+        scope: node.scope,
+    };
+    place.scope_fits() && place.formula_fits(&node.formula)
 }
 
 fn classes_fit(classes: &[Class]) -> bool
     ensures { result ≡ classes_ok classes.now }
 {
-    for class in classes {
-        if !class_fits(class) {
-            return false;
-        }
-    }
-    true
+    classes
+        .iter()
+        .all(|class| (1..=MOST_ATTRIBUTES).contains(&class.attributes))
 }
 
 fn has_premise(nodes: &[Node]) -> bool
     ensures { result ≡ some_premise nodes.now }
 {
-    for node in nodes {
-        if node.premise {
-            return true;
-        }
-    }
-    false
-}
-
-fn premise_fits(node: &Node) -> bool
-    ensures { result ≡ premise_ok node.now }
-{
-    !node.premise || empty(&node.scope)
+    nodes.iter().any(|node| node.premise)
 }
 
 fn premises_fit(nodes: &[Node]) -> bool
     ensures { result ≡ premises_ok nodes.now }
 {
-    for node in nodes {
-        if !premise_fits(node) {
-            return false;
-        }
-    }
-    true
-}
-
-fn counts_fit(classes: &[Class], nodes: &[Node]) -> bool
-    ensures { result ≡ counts_ok classes.now nodes.now }
-{
-    from_to(1, MOST_CLASSES, classes.len()) && from_to(1, MOST_NODES, nodes.len())
-}
-
-fn marks_fit(nodes: &[Node]) -> bool
-    ensures { result ≡ marks_ok nodes.now }
-{
-    has_premise(nodes) && premises_fit(nodes)
+    nodes.iter().all(|node| !node.premise || empty(&node.scope))
 }
 
 // Whether the counts and the premise marks keep their rules.
+#[tactic(auto, unfolding(crate::specs::Rules::heads_ok))]
 fn heads_fit(classes: &[Class], nodes: &[Node]) -> bool
     ensures { result ≡ heads_ok classes.now nodes.now }
 {
-    counts_fit(classes, nodes) && classes_fit(classes) && marks_fit(nodes)
+    (1..=MOST_CLASSES).contains(&classes.len())
+        && (1..=MOST_NODES).contains(&nodes.len())
+        && classes_fit(classes)
+        && has_premise(nodes)
+        && premises_fit(nodes)
 }
 
 // Every rule of a book, or the first fault.
+#[tactic(auto, using(crate::proofs::Lower::node_lower, crate::proofs::Tests::heads_few))]
 pub(crate) fn inspect(classes: &[Class], nodes: &[Node]) -> Result<(), Cause>
     ensures { MatchResult result (λ _. WellFormed classes.now nodes.now) (λ e. Refused classes.now nodes.now e) }
 {
     if !heads_fit(classes, nodes) {
         return Err(Cause::BadBook { node: 0 });
     }
-    for i in 0..nodes.len() {
-        let n = i as u32 + 1;
-        if !node_fits(classes, nodes, n) {
-            return Err(Cause::BadBook { node: n });
+    for (i, node) in nodes.iter().enumerate() {
+        if !node_fits(classes, &nodes[..i], node) {
+            return Err(Cause::BadBook { node: i as u32 + 1 });
         }
     }
     Ok(())

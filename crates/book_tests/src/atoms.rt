@@ -21,7 +21,7 @@ fn each_way(
 ) -> Result<(), Fail> {
     let nodes = [premise(NO_SCOPE), plain(NO_SCOPE)];
     for formula in [Formula::AtLeast(atom), Formula::Equal(atom)] {
-        placed(rt, name, rt.alloc(), &nodes, 2, node(scope, formula), fits)?;
+        placed(rt, name, &nodes, 2, node(scope, formula), fits)?;
     }
     Ok(())
 }
@@ -74,8 +74,8 @@ fn constants(rt: HostRuntime) -> Result<(), Fail> {
 #[test]
 fn counts_of_terms(rt: HostRuntime) -> Result<(), Fail> {
     for (count, fits) in [(0, true), (1, true), (8, true), (9, false)] {
-        let terms = several(rt.alloc(), term(1, 0, 0), count)?;
-        let atom = Atom::new(terms.as_slice(), 0);
+        let terms = several(&rt, term(1, 0, 0), count)?;
+        let atom = Atom::new(&terms, 0);
         each_way(&rt, &format_args!("{count} terms"), ONE_SLOT, atom, fits)?;
     }
     Ok(())

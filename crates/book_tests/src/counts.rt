@@ -8,8 +8,8 @@ const ONE_SLOT: [u32; 6] = [1, 0, 0, 0, 0, 0];
 #[test]
 fn classes(rt: HostRuntime) -> Result<(), Fail> {
     for (count, expected) in [(0, Some(0)), (1, None), (32, None), (33, Some(0))] {
-        let classes = several(rt.alloc(), Class { attributes: 1 }, count)?;
-        let found = fault(&rt, rt.alloc(), classes.as_slice(), &[premise(NO_SCOPE)])?;
+        let classes = several(&rt, Class { attributes: 1 }, count)?;
+        let found = fault(&rt, &classes, &[premise(NO_SCOPE)])?;
         assert_eq!(rt; found, expected, "{count} classes");
     }
     Ok(())
@@ -21,7 +21,7 @@ fn attributes(rt: HostRuntime) -> Result<(), Fail> {
     for (attributes, expected) in [(0, Some(0)), (1, None), (8, None), (9, Some(0))] {
         let class = Class { attributes };
         for classes in [[class, other], [other, class]] {
-            let found = fault(&rt, rt.alloc(), &classes, &[premise(NO_SCOPE)])?;
+            let found = fault(&rt, &classes, &[premise(NO_SCOPE)])?;
             assert_eq!(rt; found, expected, "{attributes} attributes");
         }
     }
@@ -31,8 +31,8 @@ fn attributes(rt: HostRuntime) -> Result<(), Fail> {
 #[test]
 fn nodes(rt: HostRuntime) -> Result<(), Fail> {
     for (count, expected) in [(0, Some(0)), (1, None), (4096, None), (4097, Some(0))] {
-        let nodes = several(rt.alloc(), premise(NO_SCOPE), count)?;
-        let found = fault(&rt, rt.alloc(), &CLASSES, nodes.as_slice())?;
+        let nodes = several(&rt, premise(NO_SCOPE), count)?;
+        let found = fault(&rt, &CLASSES, &nodes)?;
         assert_eq!(rt; found, expected, "{count} nodes");
     }
     Ok(())
@@ -46,21 +46,21 @@ fn premises(rt: HostRuntime) -> Result<(), Fail> {
     let scoped = premise(ONE_SLOT);
     let full = premise([1, 2, 1, 2, 1, 2]);
     let table = [
-        four("none", [fine, fine, fine, fine], Some(0)),
-        four("none, and a scope", [fine, inner, fine, fine], Some(0)),
-        four("the last node alone", [inner, fine, inner, first], None),
-        four("every node", [first, first, first, first], None),
-        four(
+        ("none", [fine, fine, fine, fine], Some(0)),
+        ("none, and a scope", [fine, inner, fine, fine], Some(0)),
+        ("the last node alone", [inner, fine, inner, first], None),
+        ("every node", [first, first, first, first], None),
+        (
             "the first with a scope",
             [scoped, first, first, first],
             Some(0),
         ),
-        four(
+        (
             "the last with a full scope",
             [first, fine, fine, full],
             Some(0),
         ),
-        four("one, with a scope", [fine, scoped, fine, fine], Some(0)),
+        ("one, with a scope", [fine, scoped, fine, fine], Some(0)),
     ];
-    each_book(&rt, rt.alloc(), &table)
+    each_book(&rt, &table)
 }

@@ -15,26 +15,26 @@ fn the_lowest_bad_node(rt: HostRuntime) -> Result<(), Fail> {
     let fine = plain(NO_SCOPE);
     let first = premise(NO_SCOPE);
     let table = [
-        four("none", [first, fine, fine, fine], None),
-        four("the second", [first, bad(), fine, fine], Some(2)),
-        four("the last", [first, fine, fine, bad()], Some(4)),
-        four(
+        ("none", [first, fine, fine, fine], None),
+        ("the second", [first, bad(), fine, fine], Some(2)),
+        ("the last", [first, fine, fine, bad()], Some(4)),
+        (
             "the second and the third",
             [first, bad(), bad(), fine],
             Some(2),
         ),
-        four(
+        (
             "the third and the last",
             [first, fine, bad(), bad()],
             Some(3),
         ),
-        four(
+        (
             "the first and the last",
             [bad(), fine, first, bad()],
             Some(1),
         ),
     ];
-    each_book(&rt, rt.alloc(), &table)
+    each_book(&rt, &table)
 }
 
 #[test]
@@ -43,56 +43,44 @@ fn a_bad_node_and_a_wrong_mark(rt: HostRuntime) -> Result<(), Fail> {
     let first = premise(NO_SCOPE);
     let scoped = premise(SCOPE);
     let table = [
-        four(
+        (
             "a bad node and no premise",
             [bad(), fine, fine, fine],
             Some(0),
         ),
-        four(
+        (
             "a bad node, then a premise with a scope",
             [bad(), first, scoped, fine],
             Some(0),
         ),
-        four(
+        (
             "a premise with a scope, then a bad node",
             [first, scoped, fine, bad()],
             Some(0),
         ),
-        four(
+        (
             "a bad node and a premise",
             [first, fine, bad(), fine],
             Some(3),
         ),
     ];
-    each_book(&rt, rt.alloc(), &table)
+    each_book(&rt, &table)
 }
 
 #[test]
 fn a_bad_node_and_a_wrong_count(rt: HostRuntime) -> Result<(), Fail> {
     let nodes = [premise(NO_SCOPE), bad()];
     let wrong = [Class { attributes: 1 }, Class { attributes: 9 }];
-    let many = several(rt.alloc(), Class { attributes: 1 }, 33)?;
-    let long = several(rt.alloc(), premise([3, 0, 0, 0, 0, 0]), 4097)?;
+    let many = several(&rt, Class { attributes: 1 }, 33)?;
+    let long = several(&rt, premise([3, 0, 0, 0, 0, 0]), 4097)?;
     assert_eq!(rt;
-        fault(&rt, rt.alloc(), &CLASSES, &nodes)?,
+        fault(&rt, &CLASSES, &nodes)?,
         Some(2),
         "counts that are fine"
     );
-    assert_eq!(rt; fault(&rt, rt.alloc(), &[], &nodes)?, Some(0), "no class");
-    assert_eq!(rt;
-        fault(&rt, rt.alloc(), &wrong, &nodes)?,
-        Some(0),
-        "9 attributes"
-    );
-    assert_eq!(rt;
-        fault(&rt, rt.alloc(), many.as_slice(), &nodes)?,
-        Some(0),
-        "33 classes"
-    );
-    assert_eq!(rt;
-        fault(&rt, rt.alloc(), &CLASSES, long.as_slice())?,
-        Some(0),
-        "4097 nodes"
-    );
+    assert_eq!(rt; fault(&rt, &[], &nodes)?, Some(0), "no class");
+    assert_eq!(rt; fault(&rt, &wrong, &nodes)?, Some(0), "9 attributes");
+    assert_eq!(rt; fault(&rt, &many, &nodes)?, Some(0), "33 classes");
+    assert_eq!(rt; fault(&rt, &CLASSES, &long)?, Some(0), "4097 nodes");
     Ok(())
 }

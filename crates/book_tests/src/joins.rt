@@ -26,15 +26,7 @@ fn each_way(
     fits: bool,
 ) -> Result<(), Fail> {
     for formula in [Formula::And { left, right }, Formula::Or { left, right }] {
-        placed(
-            rt,
-            name,
-            rt.alloc(),
-            &others(),
-            4,
-            node(SCOPE, formula),
-            fits,
-        )?;
+        placed(rt, name, &others(), 4, node(SCOPE, formula), fits)?;
     }
     Ok(())
 }

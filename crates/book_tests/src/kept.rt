@@ -1,17 +1,20 @@
 // What was handed in is handed back as it was.
 use crate::shared::*;
-use book::{Atom, Book, Formula};
+use book::{Atom, Book, Formula, Node};
 use std::test::Fail;
 
-fn sample(rt: &HostRuntime) -> Result<Book, Fail> {
+fn sample_nodes() -> [Node; 3] {
     let atom = Atom::new(&[term(-5, 0, 7)], 9);
-    let nodes = [
+    [
         node([2, 0, 0, 0, 0, 0], Formula::Equal(atom)),
         node(NO_SCOPE, Formula::Every { class: 2, body: 1 }),
         premise(NO_SCOPE),
-    ];
+    ]
+}
+
+fn sample(rt: &HostRuntime) -> Result<Book, Fail> {
     let classes = Vec::from_slice(rt.alloc(), &CLASSES)?;
-    let nodes = Vec::from_slice(rt.alloc(), &nodes)?;
+    let nodes = Vec::from_slice(rt.alloc(), &sample_nodes())?;
     Ok(Book::new(classes, nodes)?)
 }
 
@@ -33,13 +36,7 @@ fn attributes(rt: HostRuntime) -> Result<(), Fail> {
 #[test]
 fn nodes(rt: HostRuntime) -> Result<(), Fail> {
     let book = sample(&rt)?;
-    let [first, second, last] = book.nodes() else {
-        return Err(Fail::new("not three nodes"));
-    };
-    assert_eq!(rt; first.scope, [2, 0, 0, 0, 0, 0], "the first scope");
-    assert_eq!(rt; second.scope, NO_SCOPE, "the second scope");
-    assert_eq!(rt; second.premise, false, "the second mark");
-    assert_eq!(rt; last.premise, true, "the last mark");
+    assert_eq!(rt; book.nodes(), sample_nodes().as_slice());
     Ok(())
 }
 
@@ -47,20 +44,22 @@ fn nodes(rt: HostRuntime) -> Result<(), Fail> {
 #[test]
 fn atoms(rt: HostRuntime) {
     let t = term(-7, 5, 10);
-    let three = Atom::new(&[t, t, t], -1);
-    let nine = Atom::new(&[t, t, t, t, t, t, t, t, t], -2_147_483_648);
-    assert!(rt; three.count == 3 && three.constant == -1, "three terms");
-    assert!(rt;
-        three.terms[2].coefficient == -7 && three.terms[3].coefficient == 0,
-        "their places"
-    );
-    assert!(rt;
-        nine.count == 9 && nine.constant == -2_147_483_648,
+    let none = term(0, 0, 0);
+    let three = Atom {
+        terms: [t, t, t, none, none, none, none, none],
+        count: 3,
+        constant: -1,
+    };
+    let nine = Atom {
+        terms: [t, t, t, t, t, t, t, t],
+        count: 9,
+        constant: -2_147_483_648,
+    };
+    assert_eq!(rt; Atom::new(&[t, t, t], -1), three, "three terms");
+    assert_eq!(rt;
+        Atom::new(&[t, t, t, t, t, t, t, t, t], -2_147_483_648),
+        nine,
         "nine terms"
-    );
-    assert!(rt;
-        nine.terms[7].slot == 5 && nine.terms[7].attribute == 10,
-        "the last place"
     );
 }
 

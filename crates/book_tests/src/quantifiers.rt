@@ -27,43 +27,18 @@ fn others() -> [Node; 7] {
     ]
 }
 
-#[derive(Drop)]
-struct Case {
-    name: &'static str,
-    scope: [u32; 6],
-    class: u32,
-    body: u32,
-    fits: bool,
-}
-
-fn row(name: &'static str, scope: [u32; 6], class: u32, body: u32, fits: bool) -> Case {
-    Case {
-        name,
-        scope,
-        class,
-        body,
-        fits,
-    }
-}
-
-fn each(rt: &(impl Abort + AllocGlobal), table: &[Case]) -> Result<(), Fail> {
+fn each(
+    rt: &(impl Abort + AllocGlobal),
+    table: &[(&'static str, [u32; 6], u32, u32, bool)],
+) -> Result<(), Fail> {
     let nodes = others();
-    for case in table {
-        let class = case.class;
-        let body = case.body;
+    for (name, scope, class, body, fits) in table {
+        let (class, body) = (*class, *body);
         for formula in [
             Formula::Exists { class, body },
             Formula::Every { class, body },
         ] {
-            placed(
-                rt,
-                &case.name,
-                rt.alloc(),
-                &nodes,
-                6,
-                node(case.scope, formula),
-                case.fits,
-            )?;
+            placed(rt, name, &nodes, 6, node(*scope, formula), *fits)?;
         }
     }
     Ok(())
@@ -72,12 +47,12 @@ fn each(rt: &(impl Abort + AllocGlobal), table: &[Case]) -> Result<(), Fail> {
 #[test]
 fn bodies(rt: HostRuntime) -> Result<(), Fail> {
     let table = [
-        row("no node", NO_SCOPE, 1, 0, false),
-        row("a lower node", NO_SCOPE, 1, 2, true),
-        row("the node itself", NO_SCOPE, 1, 6, false),
-        row("a higher node", NO_SCOPE, 1, 7, false),
-        row("past the last node", NO_SCOPE, 1, 8, false),
-        row("the largest number", NO_SCOPE, 1, 4_294_967_295, false),
+        ("no node", NO_SCOPE, 1, 0, false),
+        ("a lower node", NO_SCOPE, 1, 2, true),
+        ("the node itself", NO_SCOPE, 1, 6, false),
+        ("a higher node", NO_SCOPE, 1, 7, false),
+        ("past the last node", NO_SCOPE, 1, 8, false),
+        ("the largest number", NO_SCOPE, 1, 4_294_967_295, false),
     ];
     each(&rt, &table)
 }
@@ -85,11 +60,11 @@ fn bodies(rt: HostRuntime) -> Result<(), Fail> {
 #[test]
 fn classes(rt: HostRuntime) -> Result<(), Fail> {
     let table = [
-        row("class 0", NO_SCOPE, 0, 2, false),
-        row("class 0, which would add nothing", NO_SCOPE, 0, 1, false),
-        row("the first class", NO_SCOPE, 1, 2, true),
-        row("the last class", NO_SCOPE, 2, 3, true),
-        row("an unknown class", NO_SCOPE, 3, 2, false),
+        ("class 0", NO_SCOPE, 0, 2, false),
+        ("class 0, which would add nothing", NO_SCOPE, 0, 1, false),
+        ("the first class", NO_SCOPE, 1, 2, true),
+        ("the last class", NO_SCOPE, 2, 3, true),
+        ("an unknown class", NO_SCOPE, 3, 2, false),
     ];
     each(&rt, &table)
 }
@@ -97,13 +72,13 @@ fn classes(rt: HostRuntime) -> Result<(), Fail> {
 #[test]
 fn scopes_of_bodies(rt: HostRuntime) -> Result<(), Fail> {
     let table = [
-        row("the same scope", NO_SCOPE, 1, 1, false),
-        row("another class added", NO_SCOPE, 1, 3, false),
-        row("two classes added", NO_SCOPE, 1, 4, false),
-        row("the class in the second slot", ONE, 2, 4, true),
-        row("the class in the first slot", ONE, 1, 4, false),
-        row("the class in place of the other", ONE, 2, 3, false),
-        row("the wrong class before it", TWO, 2, 4, false),
+        ("the same scope", NO_SCOPE, 1, 1, false),
+        ("another class added", NO_SCOPE, 1, 3, false),
+        ("two classes added", NO_SCOPE, 1, 4, false),
+        ("the class in the second slot", ONE, 2, 4, true),
+        ("the class in the first slot", ONE, 1, 4, false),
+        ("the class in place of the other", ONE, 2, 3, false),
+        ("the wrong class before it", TWO, 2, 4, false),
     ];
     each(&rt, &table)
 }
@@ -111,10 +86,10 @@ fn scopes_of_bodies(rt: HostRuntime) -> Result<(), Fail> {
 #[test]
 fn depths(rt: HostRuntime) -> Result<(), Fail> {
     let table = [
-        row("depth 5", FIVE, 2, 5, true),
-        row("depth 5, another class", FIVE, 1, 5, false),
-        row("depth 6", SIX, 2, 5, false),
-        row("depth 6, another class", SIX, 1, 5, false),
+        ("depth 5", FIVE, 2, 5, true),
+        ("depth 5, another class", FIVE, 1, 5, false),
+        ("depth 6", SIX, 2, 5, false),
+        ("depth 6, another class", SIX, 1, 5, false),
     ];
     each(&rt, &table)
 }

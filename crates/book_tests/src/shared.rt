@@ -2,7 +2,7 @@
 ghost use Rattle.std.specs.Prelude.{◌≤◌, length};
 
 use book::{Atom, Book, Class, Formula, Node, Term};
-use std::alloc::{AllocError, Global};
+use std::alloc::AllocError;
 use std::fmt;
 use std::process::Abort;
 use std::test::Fail;
@@ -34,16 +34,18 @@ pub fn plain(scope: [u32; 6]) -> Node {
 
 // The same as a premise.
 pub fn premise(scope: [u32; 6]) -> Node {
-    let Node { formula, .. } = plain(scope);
     Node {
-        scope,
         premise: true,
-        formula,
+        ..plain(scope)
     }
 }
 
-pub fn several<T: Copy + Drop>(heap: Global, x: T, count: usize) -> Result<Vec<T>, AllocError> {
-    let mut v = Vec::new(heap);
+pub fn several<T: Copy + Drop>(
+    rt: &impl AllocGlobal,
+    x: T,
+    count: usize,
+) -> Result<Vec<T>, AllocError> {
+    let mut v = Vec::new(rt.alloc());
     for _i in 0..count {
         v.push(x)?;
     }
@@ -52,13 +54,12 @@ pub fn several<T: Copy + Drop>(heap: Global, x: T, count: usize) -> Result<Vec<T
 
 // The detail of the refusal, or None where the book is made.
 pub fn fault(
-    rt: &impl Abort,
-    heap: Global,
+    rt: &(impl Abort + AllocGlobal),
     classes: &[Class],
     nodes: &[Node],
 ) -> Result<Option<u32>, Fail> {
-    let own_classes = Vec::from_slice(heap, classes)?;
-    let own_nodes = Vec::from_slice(heap, nodes)?;
+    let own_classes = Vec::from_slice(rt.alloc(), classes)?;
+    let own_nodes = Vec::from_slice(rt.alloc(), nodes)?;
     match Book::new(own_classes, own_nodes) {
         Ok(_) => Ok(None),
         Err(cause) => {
@@ -70,9 +71,8 @@ pub fn fault(
 
 // The other nodes keep every rule, and this one stands in place of node n.
 pub fn placed(
-    rt: &impl Abort,
+    rt: &(impl Abort + AllocGlobal),
     name: &impl fmt::Display,
-    heap: Global,
     nodes: &[Node],
     n: u32,
     node: Node,
@@ -81,37 +81,20 @@ pub fn placed(
     requires low { 1 ≤ n }
     requires high { n ≤ length nodes.now }
 {
-    let mut all = Vec::from_slice(heap, nodes)?;
+    let mut all = Vec::from_slice(rt.alloc(), nodes)?;
     all[n as usize - 1] = node;
     let expected = if fits { None } else { Some(n) };
-    assert_eq!(rt;
-        fault(rt, heap, &CLASSES, all.as_slice())?,
-        expected,
-        "{name}"
-    );
+    assert_eq!(rt; fault(rt, &CLASSES, &all)?, expected, "{name}");
     Ok(())
 }
 
-// A book of four nodes, and the detail of its refusal.
-#[derive(Drop)]
-pub struct Trial {
-    pub name: &'static str,
-    pub nodes: [Node; 4],
-    pub expected: Option<u32>,
-}
-
-pub fn four(name: &'static str, nodes: [Node; 4], expected: Option<u32>) -> Trial {
-    Trial {
-        name,
-        nodes,
-        expected,
-    }
-}
-
-pub fn each_book(rt: &impl Abort, heap: Global, table: &[Trial]) -> Result<(), Fail> {
-    for trial in table {
-        let found = fault(rt, heap, &CLASSES, &trial.nodes)?;
-        assert_eq!(rt; found, trial.expected, "{}", trial.name);
+// Books of four nodes, and the details of their refusals.
+pub fn each_book(
+    rt: &(impl Abort + AllocGlobal),
+    table: &[(&'static str, [Node; 4], Option<u32>)],
+) -> Result<(), Fail> {
+    for (name, nodes, expected) in table {
+        assert_eq!(rt; fault(rt, &CLASSES, nodes)?, *expected, "{name}");
     }
     Ok(())
 }

@@ -44,9 +44,12 @@ impl fmt::Display for Cause {
     ghost output = { λ c. Some (cause_text c) };
 
     fn fmt<W: fmt::Write>(&self, f: &mut fmt::Formatter<W>) -> fmt::Result {
-        let number = self.number();
-        let meaning = self.meaning();
-        let detail = self.detail();
-        write!(f, "refused by {number}, detail {detail}: {meaning}")
+        write!(
+            f,
+            "refused by {}, detail {}: {}",
+            self.number(),
+            self.detail(),
+            self.meaning()
+        )
     }
 }

@@ -20,10 +20,10 @@ module _ (b : Book) (world : World) (n : ℕ) (ready : Ready (nodes_of b) world 
   arm_is is = ap (λ (xs : List Node). (node_at xs n).formula) (sym same) ∙ is
 
   pub arm_sound : {f : Formula} → (node_at ns n).formula ≡ f → Sound n (depth_of (node_at (nodes_of b) n).scope) f
-  arm_sound is = sound_at (classes_of b) (nodes_of b) b.each n ready.low ready.high (arm_is is)
+  arm_sound is = sound_at (classes_of b) (nodes_of b) b.rules.1 n ready.low ready.high (arm_is is)
 
   pub arm_says : (env : Env) {f : Formula} → (node_at ns n).formula ≡ f → evaluated (nodes_of b) world n env ≡ said (evaluated (nodes_of b) world) world (depth_of (node_at (nodes_of b) n).scope) env f
-  arm_says env is = evaluated_is (classes_of b) (nodes_of b) b.each world n ready.low ready.high env (arm_is is)
+  arm_says env is = evaluated_is (classes_of b) (nodes_of b) b.rules.1 world n ready.low ready.high env (arm_is is)
 
   pub arm_depth : (d : ℕ) → d ≡ depth_of (node_at ns n).scope → d ≡ depth_of (node_at (nodes_of b) n).scope
   arm_depth d e = e ∙ ap (λ (xs : List Node). depth_of (node_at xs n).scope) same

@@ -1,9 +1,9 @@
-use Rattle.std.proofs.Common.{sym, arith}
-use Rattle.book.proofs.Tests.{heads_few}
+use Rattle.std.proofs.Common.{arith}
+use Rattle.book.specs.Rules.{node_ok}
+use Rattle.book.proofs.Lower.{node_lower}
+use Rattle.book.proofs.Tests.{holds_more}
 use Rattle.book.proofs.rules.inspect.Goals as goal
 
-pub overflow_cast-n : goal.overflow_cast-n
-overflow_cast-n c = omega (arith, heads_few c.args.classes.now c.args.nodes.now (sym c.if-not-heads_fit.ensures))
-
-pub overflow_add-n : goal.overflow_add-n
-overflow_add-n c = omega (arith, heads_few c.args.classes.now c.args.nodes.now (sym c.if-not-heads_fit.ensures))
+pub loop-i-preserved : goal.loop-i-preserved
+loop-i-preserved c =
+    holds_more c.loop-i.i (node_ok c.args.classes.now c.args.nodes.now) c.loop-i.invariant (grind (arith, node_lower c.args.classes.now c.args.nodes.now c.loop-i.i c.loop-i-test.true))

@@ -14,10 +14,10 @@ pub loop-i-init : goal.loop-i-init
 loop-i-init c = gone_none (nodes_of c.args.book.now) (world_of c.args.log.now) c.args.budget
 
 pub overflow_cast-n : goal.overflow_cast-n
-overflow_cast-n c = omega (arith, (inside (nodes_of c.args.book.now) c.nodes-nodes.result.now c.nodes-nodes.ensures c.loop-i.i c.loop-i-test.true), heads_few (classes_of c.args.book.now) (nodes_of c.args.book.now) c.args.book.now.heads)
+overflow_cast-n c = omega (arith, (inside (nodes_of c.args.book.now) c.nodes-nodes.result.now c.nodes-nodes.ensures c.loop-i.i c.loop-i-test.true), heads_few (classes_of c.args.book.now) (nodes_of c.args.book.now) c.args.book.now.rules.0)
 
 pub overflow_add-n : goal.overflow_add-n
-overflow_add-n c = omega (arith, (inside (nodes_of c.args.book.now) c.nodes-nodes.result.now c.nodes-nodes.ensures c.loop-i.i c.loop-i-test.true), heads_few (classes_of c.args.book.now) (nodes_of c.args.book.now) c.args.book.now.heads)
+overflow_add-n c = omega (arith, (inside (nodes_of c.args.book.now) c.nodes-nodes.result.now c.nodes-nodes.ensures c.loop-i.i c.loop-i-test.true), heads_few (classes_of c.args.book.now) (nodes_of c.args.book.now) c.args.book.now.rules.0)
 
 pub evaluate-requires : goal.evaluate-requires
 evaluate-requires c = record {

@@ -16,7 +16,7 @@ returns-in_err-check c =
     let e : c.from_residual.result ≡ Err (BadWorld k.0) = p.1 ∙ ap (λ (x : Cause). Err x) (p.2 ∙ k.1) in
     record {
       answer = rw e k.2;
-      truth = truth_laws (classes_of b) (nodes_of b) b.each;
+      truth = truth_laws (classes_of b) (nodes_of b) b.rules.1;
       verdict = test_laws (classes_of b) (nodes_of b);
     }
 
@@ -25,6 +25,6 @@ returns c =
     let b = c.args.book.now in
     record {
       answer = answered_from (classes_of b) (nodes_of b) (world_of c.args.log.now) c.args.budget c.try_premises.result c.in_ok-check.ensures c.try_premises.ensures;
-      truth = truth_laws (classes_of b) (nodes_of b) b.each;
+      truth = truth_laws (classes_of b) (nodes_of b) b.rules.1;
       verdict = test_laws (classes_of b) (nodes_of b);
     }
