@@ -5,6 +5,5 @@ pub mod Meanings
 pub mod Nodes
 pub mod Sizes
 pub mod Slots
-pub mod Sums
 pub mod Verdicts
 pub mod Walks

@@ -57,21 +57,12 @@ terms_bounded classes scope six [] h i l = absurd (omega arith)
 terms_bounded classes scope six (t ∷ ts) h zero l = term_bounded classes scope six t (and_parts (term_ok classes scope t) (terms_ok classes scope ts) h).0
 terms_bounded classes scope six (t ∷ ts) h (suc i) l = terms_bounded classes scope six ts (and_parts (term_ok classes scope t) (terms_ok classes scope ts) h).1 i (omega arith)
 
-no_term_bounded : BoundedTerm no_term
-no_term_bounded = record { coefficient = zero-le; slot = lit< tt }
-
 atom_bounded : (classes : List Class) (scope : List ℕ) → length scope ≤ slot_count → (a : Atom) → atom_ok classes scope a ≡ true → Bounded a
 unfolding atom_ok
 atom_bounded classes scope six a h =
     let p = and_parts (leb a.count most_terms) _ h in
     let q = and_parts (terms_ok classes scope (terms_of a)) _ p.1 in
-    record {
-      few = leb-true a.count most_terms p.0;
-      each = λ i l. ⊎_elim
-          (λ (k : i < length a.terms). subst BoundedTerm (get_or-take a.count a.terms i no_term l) (terms_bounded classes scope six (terms_of a) q.0 i (simp length-take (omega arith))))
-          (λ k. subst BoundedTerm (sym (get_or_past a.terms i no_term k)) no_term_bounded)
-          (cases_lt i (length a.terms));
-    }
+    record { few = leb-true a.count most_terms p.0; each = terms_bounded classes scope six (terms_of a) q.0 }
 
 -- the rules of node n, as far as its evaluation needs them
 module _ (classes : List Class) (nodes : List Node) (n : ℕ) where

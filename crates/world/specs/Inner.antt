@@ -3,7 +3,7 @@ use Rattle.std.specs.Prelude.{◌≡◌, ℕ, zero, suc, ◌<◌, ◌≤◌, Lis
 use Rattle.causes.specs.declared.cause.Cause.{Cause}
 use Rattle.causes.specs.declared.cause.Cause.TheVariants.{BadWorld, OverBudget}
 use Rattle.book.specs.Limits.{most_terms, slot_count, largest_coefficient}
-use Rattle.book.specs.Rules.{no_term}
+use Rattle.book.specs.Rules.{no_term, terms_of}
 use Rattle.book.specs.declared.parts.Atom.{Atom}
 use Rattle.book.specs.declared.parts.Class.{Class}
 use Rattle.book.specs.declared.parts.Node.{Node}
@@ -32,7 +32,7 @@ pub record BoundedTerm (t : Term) : Type 0 where
 
 pub record Bounded (a : Atom) : Type 0 where
   pub few : a.count ≤ most_terms
-  pub each : (i : ℕ) → i < a.count → BoundedTerm (slice_index_or a.terms i no_term)
+  pub each : (i : ℕ) → i < length (terms_of a) → BoundedTerm (slice_index_or (terms_of a) i no_term)
 
 -- node n is there to be evaluated
 pub record Ready (nodes : List Node) (world : World) (n : ℕ) : Type 0 where

@@ -1,5 +1,5 @@
 // What an atom is worth: an exact sum.
-ghost use Rattle.std.specs.Prelude.{◌≡◌, ℕ, ◌+◌, ◌*◌, ◌^◌, ◌<◌, ◌≤◌, length, ℤ, pos, slice_index_or, unsigned_abs};
+ghost use Rattle.std.specs.Prelude.{◌≡◌, ℕ, ◌+◌, ◌*◌, ◌^◌, ◌<◌, ◌≤◌, length, ℤ, pos, slice_index_or, unsigned_abs, unwrap_or};
 ghost use Rattle.book.specs.Limits.{largest_coefficient};
 ghost use Rattle.world.specs.Worlds.{world_of, largest_value};
 ghost use Rattle.world.specs.Truth.{reading, product, worth as meaning};
@@ -8,20 +8,12 @@ ghost use Rattle.world.specs.Inner.{values_at, env_of, Calm, BoundedTerm, Bounde
 use crate::parts::Element;
 use book::{Atom, Term};
 
-// An attribute of the element with this number, or 0 where there is none.
-fn value(log: &[Element], number: u32, attribute: u32) -> i64
-    ensures { result ≡ slice_index_or (values_at (world_of log.now) number) attribute (pos 0) }
+// An attribute of the element with this number, where there is one.
+fn value(log: &[Element], number: u32, attribute: u32) -> Option<i64>
+    ensures { unwrap_or result (pos 0) ≡ slice_index_or (values_at (world_of log.now) number) attribute (pos 0) }
 {
-    let k = number as usize;
-    if k == 0 || k > log.len() {
-        return 0;
-    }
-    let a = attribute as usize;
-    if a < log[k - 1].values.len() {
-        log[k - 1].values[a]
-    } else {
-        0
-    }
+    let e = log.get((number as usize).checked_sub(1)?)?;
+    e.values.get(attribute as usize).copied()
 }
 
 fn part(t: &Term, log: &[Element], slots: &[u32; 6]) -> i64
@@ -30,7 +22,7 @@ fn part(t: &Term, log: &[Element], slots: &[u32; 6]) -> i64
     ensures value { result ≡ product (env_of (world_of log.now) slots.now) t.now }
     ensures size { unsigned_abs result ≤ largest_coefficient * largest_value }
 {
-    let x = value(log, slots[t.slot as usize], t.attribute);
+    let x = value(log, slots[t.slot as usize], t.attribute).unwrap_or(0);
     i64::from(t.coefficient) * x
 }
 
@@ -40,8 +32,8 @@ pub(crate) fn worth(a: &Atom, log: &[Element], slots: &[u32; 6]) -> i64
     ensures { result ≡ meaning (env_of (world_of log.now) slots.now) a.now }
 {
     let mut sum = i64::from(a.constant);
-    for i in 0..a.count {
-        sum += part(&a.terms[i], log, slots);
+    for t in &a.terms[..a.count] {
+        sum += part(t, log, slots);
     }
     sum
 }

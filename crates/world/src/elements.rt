@@ -14,30 +14,20 @@ const MOST_ELEMENTS: usize = 256;
 // Values lie between minus this number and this number.
 pub const LARGEST_VALUE: i64 = 2_147_483_647;
 
-fn value_fits(v: i64) -> bool
-    ensures { result ≡ nat_le (unsigned_abs v) largest_value }
-{
-    -LARGEST_VALUE <= v && v <= LARGEST_VALUE
-}
-
 fn values_fit(values: &[i64]) -> bool
     ensures { result ≡ values_ok values.now }
 {
-    for v in values {
-        if !value_fits(*v) {
-            return false;
-        }
-    }
-    true
+    values
+        .iter()
+        .all(|v| (-LARGEST_VALUE..=LARGEST_VALUE).contains(v))
 }
 
+#[tactic(auto, unfolding(crate::specs::Worlds::element_ok))]
 fn element_fits(book: &Book, e: &Element) -> bool
     ensures { result ≡ element_ok (classes_of book.now) (element_of e.now) }
 {
-    match book.attributes(e.class) {
-        Some(count) => e.values.len() == count as usize && values_fit(e.values),
-        None => false,
-    }
+    book.attributes(e.class)
+        .is_some_and(|count| e.values.len() == count as usize && values_fit(e.values))
 }
 
 // Every element, or the first fault.
@@ -47,8 +37,8 @@ pub(crate) fn check(book: &Book, log: &[Element]) -> Result<(), Cause>
     if log.len() > MOST_ELEMENTS {
         return Err(Cause::BadWorld { element: 0 });
     }
-    for i in 0..log.len() {
-        if !element_fits(book, &log[i]) {
+    for (i, e) in log.iter().enumerate() {
+        if !element_fits(book, e) {
             return Err(Cause::BadWorld {
                 element: i as u32 + 1,
             });

@@ -17,8 +17,8 @@ pub(crate) fn try_premises(book: &Book, log: &[Element], budget: u32) -> Result<
 {
     let nodes = book.nodes();
     let mut visits: u32 = 0;
-    for i in 0..nodes.len() {
-        if nodes[i].premise {
+    for (i, node) in nodes.iter().enumerate() {
+        if node.premise {
             let n = i as u32 + 1;
             let seen = evaluate(book, log, n, [0; 6], budget - visits)?;
             visits += seen.visits;

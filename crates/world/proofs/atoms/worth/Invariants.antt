@@ -6,7 +6,10 @@ use Rattle.world.specs.Truth.{sum, worth}
 use Rattle.world.specs.Inner.{env_of}
 use Rattle.world.proofs.atoms.worth.Given as goal
 
-abbrev pub invariant-loop-i : goal.invariant-loop-i
-invariant-loop-i l =
-    (l.sum +ℤ sum (env_of (world_of l.log) l.slots) (drop l.i (terms_of l.a)) ≡ worth (env_of (world_of l.log) l.slots) l.a)
-    × (nat_abs l.sum ≤ 2 ^ 31 + l.i * (largest_coefficient * largest_value))
+abbrev pub invariant-loop-t : goal.invariant-loop-t
+invariant-loop-t l =
+    let env = env_of (world_of l.log) l.slots in
+    record {
+      so_far : l.sum +ℤ sum env (drop l.t-index (terms_of l.a)) ≡ worth env l.a;
+      size : nat_abs l.sum ≤ 2 ^ 31 + l.t-index * (largest_coefficient * largest_value);
+    }
