@@ -1,8 +1,7 @@
 -- What a node says, by what the nodes that it names say.
-use Rattle.std.proofs.Common.{◌≡◌, ℕ, zero, suc, ◌<◌, ◌≤◌, true, false, ◌&&◌, eqb, ltb, leb, List, [], ◌∷◌, length, get_or, set, ℤ, nat_abs, sym, refl, ap, ◌∙◌, subst, ⊎_elim, zero-le, arith, lit<}
+use Rattle.std.proofs.Common.{◌≡◌, ℕ, zero, suc, ◌<◌, ◌≤◌, true, false, ◌&&◌, eqb, ltb, leb, List, [], ◌∷◌, length, get_or, set, ℤ, nat_abs, refl, ap, ◌∙◌, subst, arith}
 use mathlib.Core.Path.{fun_ext}
-use Rattle.std.proofs.lemmas.Bool.{and_parts, leb-true, ltb-true, eqb-true, cases_lt}
-use Rattle.std.proofs.lemmas.List.{get_or-take, get_or_past, length-take}
+use Rattle.std.proofs.lemmas.Bool.{and_parts, leb-true, ltb-true, eqb-true}
 use Rattle.book.specs.Limits.{slot_count, most_terms, largest_coefficient}
 use Rattle.book.specs.Lowest.{HoldsTo}
 use Rattle.book.specs.Rules.{depth_of, same_scope_lem, widened, is_class, slots_ok, scope_ok, term_ok, terms_ok, terms_of, atom_ok, child_ok, body_ok, formula_ok, node_ok, node_at, no_term}

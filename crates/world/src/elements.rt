@@ -11,6 +11,14 @@ use causes::Cause;
 
 const MOST_ELEMENTS: usize = 256;
 
+// A book, and elements that its world test can take.
+#[derive(Clone, Copy)]
+pub(crate) struct Trial<'a> {
+    pub(crate) book: &'a Book,
+    pub(crate) log: &'a [Element<'a>],
+    ghost testable: { Testable (classes_of book.now) (world_of log.now) },
+}
+
 // Values lie between minus this number and this number.
 pub const LARGEST_VALUE: i64 = 2_147_483_647;
 
@@ -26,23 +34,25 @@ fn values_fit(values: &[i64]) -> bool
 fn element_fits(book: &Book, e: &Element) -> bool
     ensures { result ≡ element_ok (classes_of book.now) (element_of e.now) }
 {
-    book.attributes(e.class)
-        .is_some_and(|count| e.values.len() == count as usize && values_fit(e.values))
+    book.attributes(e.class).is_some_and(|count| e.values.len() == count as usize
+        && values_fit(e.values))
 }
 
-// Every element, or the first fault.
-pub(crate) fn check(book: &Book, log: &[Element]) -> Result<(), Cause>
-    ensures { MatchResult result (λ _. Testable (classes_of book.now) (world_of log.now)) (λ e. UnfitBy (classes_of book.now) (world_of log.now) e) }
-{
-    if log.len() > MOST_ELEMENTS {
-        return Err(Cause::BadWorld { element: 0 });
-    }
-    for (i, e) in log.iter().enumerate() {
-        if !element_fits(book, e) {
-            return Err(Cause::BadWorld {
-                element: i as u32 + 1,
-            });
+impl<'a> Trial<'a> {
+    // Refused by the first fault of the elements.
+    pub(crate) fn new(book: &'a Book, log: &'a [Element<'a>]) -> Result<Trial<'a>, Cause>
+        ensures { MatchResult result (λ t. (t.book.now ≡ book.now) × (t.log.now ≡ log.now)) (λ e. UnfitBy (classes_of book.now) (world_of log.now) e) }
+    {
+        if log.len() > MOST_ELEMENTS {
+            return Err(Cause::BadWorld { element: 0 });
         }
+        for (i, e) in log.iter().enumerate() {
+            if !element_fits(book, e) {
+                return Err(Cause::BadWorld {
+                    element: i as u32 + 1,
+                });
+            }
+        }
+        Ok(Trial { book, log })
     }
-    Ok(())
 }

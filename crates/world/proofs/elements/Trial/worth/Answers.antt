@@ -6,7 +6,7 @@ use Rattle.book.specs.Rules.{terms_of, no_term}
 use Rattle.world.specs.Worlds.{world_of}
 use Rattle.world.specs.Truth.{sum, worth}
 use Rattle.world.specs.Inner.{env_of}
-use Rattle.world.proofs.atoms.worth.Goals as goal
+use Rattle.world.proofs.elements.Trial.worth.Goals as goal
 
 pub loop-t-init : goal.loop-t-init
 unfolding worth
@@ -14,11 +14,11 @@ loop-t-init c =
     let f : SFits w32 c.args.a.now.constant = search rules in
     record { so_far = omega (arith, ints); size = omega (arith, ints) }
 
-pub part-sum-requires-clause-term : goal.part-sum-requires-clause-term
-part-sum-requires-clause-term c = c.requires.atom.each c.loop-t.t-index c.loop-t-test.true
+pub part-sum-requires : goal.part-sum-requires
+part-sum-requires c = c.requires.each c.loop-t.t-index c.loop-t-test.true
 
 pub loop-t-preserved : goal.loop-t-preserved
 loop-t-preserved c =
     let few : c.loop-t.t-index < most_terms = search rules in
-    let next = at_drop_more (sum (env_of (world_of c.args.log.now) c.args.slots.now)) (terms_of c.args.a.now) c.loop-t.t-index no_term c.loop-t-test.true in
+    let next = at_drop_more (sum (env_of (world_of c.args.self.now.log.now) c.args.slots.now)) (terms_of c.args.a.now) c.loop-t.t-index no_term c.loop-t-test.true in
     record { so_far = omega (arith, ints); size = omega (arith, ints) }
