@@ -30,11 +30,6 @@ pub record Bounded (a : Atom) : Type 0 where
   pub few : a.count ≤ most_terms
   pub each : (i : ℕ) → i < length (terms_of a) → BoundedTerm (slice_index_or (terms_of a) i no_term)
 
--- there is a node n
-pub record Known (nodes : List Node) (n : ℕ) : Type 0 where
-  pub low : 1 ≤ n
-  pub high : n ≤ length nodes
-
 -- what is found, with so many visits, is told where the budget suffices, and refused where it does not
 abbrev pub Within : {X : Type 0} → (X → ℕ) → ℕ → X → Result X Cause → Type 0
 Within visits budget o (Ok a) = (a ≡ o) × (visits o ≤ budget)

@@ -1,9 +1,10 @@
 // What an atom is worth: an exact sum.
-ghost use Rattle.std.specs.Prelude.{◌≡◌, ℕ, ◌+◌, ◌*◌, ◌^◌, ◌<◌, ◌≤◌, length, ℤ, pos, slice_index_or, unsigned_abs, unwrap_or};
+ghost use Rattle.std.specs.Prelude.{◌≡◌, ◌*◌, ◌≤◌, pos, slice_index_or, unsigned_abs, unwrap_or};
 ghost use Rattle.book.specs.Limits.{largest_coefficient};
 ghost use Rattle.world.specs.Worlds.{world_of, largest_value};
-ghost use Rattle.world.specs.Truth.{reading, product, worth as meaning};
-ghost use Rattle.world.specs.Inner.{values_at, env_of, BoundedTerm, Bounded};
+ghost use Rattle.world.specs.Truth.{product, worth as meaning};
+ghost use Rattle.world.specs.Inner.{values_at, BoundedTerm, Bounded};
+ghost use Rattle.world.specs.Trials.{env_in};
 
 use crate::elements::Trial;
 use book::{Atom, Term};
@@ -19,7 +20,7 @@ impl Trial<'_> {
 
     fn part(&self, t: &Term, slots: &[u32; 6]) -> i64
         requires { BoundedTerm t.now }
-        ensures value { result ≡ product (env_of (world_of self.now.log.now) slots.now) t.now }
+        ensures value { result ≡ product (env_in self.now slots.now) t.now }
         ensures size { unsigned_abs result ≤ largest_coefficient * largest_value }
     {
         let number = slots[t.slot as usize];
@@ -29,7 +30,7 @@ impl Trial<'_> {
 
     pub(crate) fn worth(&self, a: &Atom, slots: &[u32; 6]) -> i64
         requires { Bounded a.now }
-        ensures { result ≡ meaning (env_of (world_of self.now.log.now) slots.now) a.now }
+        ensures { result ≡ meaning (env_in self.now slots.now) a.now }
     {
         let mut sum = i64::from(a.constant);
         for t in &a.terms[..a.count] {

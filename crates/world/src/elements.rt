@@ -1,7 +1,7 @@
 // Which elements the world test can take.
-ghost use Rattle.std.specs.Prelude.{◌≡◌, length, MatchResult, nat_le, unsigned_abs};
+ghost use Rattle.std.specs.Prelude.{◌≡◌, MatchResult};
 ghost use Rattle.book.specs.Whole.{classes_of};
-ghost use Rattle.world.specs.Worlds.{element_of, world_of, largest_value, values_ok, element_ok};
+ghost use Rattle.world.specs.Worlds.{element_of, world_of, values_ok, element_ok};
 ghost use Rattle.world.specs.Test.{Testable};
 ghost use Rattle.world.specs.Inner.{UnfitBy};
 

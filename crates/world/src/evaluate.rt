@@ -1,10 +1,9 @@
 // What a node says, within a budget of visits.
-ghost use Rattle.std.specs.Prelude.{◌≡◌, ◌<◌, ◌≤◌, length, slice_set};
+ghost use Rattle.std.specs.Prelude.{◌<◌};
 ghost use Rattle.book.specs.Limits.{slot_count};
-ghost use Rattle.book.specs.Whole.{nodes_of};
-ghost use Rattle.world.specs.Worlds.{world_of};
-ghost use Rattle.world.specs.Truth.{chained, tried, evaluated};
-ghost use Rattle.world.specs.Inner.{env_of, Known, Told};
+ghost use Rattle.world.specs.Truth.{chained};
+ghost use Rattle.world.specs.Inner.{Told};
+ghost use Rattle.world.specs.Trials.{Known, evaluated_in, tried_in};
 
 use crate::elements::Trial;
 use crate::parts::{Evaluation, Quantifier};
@@ -15,8 +14,8 @@ impl Trial<'_> {
     // Node n, with an element's number in each used slot.
     #[cycle(both_evaluate_walk)]
     pub(crate) fn evaluate(&self, n: u32, slots: [u32; 6], budget: u32) -> Result<Evaluation, Cause>
-        requires { Known (nodes_of self.now.book.now) n }
-        ensures { Told budget (evaluated (nodes_of self.now.book.now) (world_of self.now.log.now) n (env_of (world_of self.now.log.now) slots)) result }
+        requires { Known self.now n }
+        ensures { Told budget (evaluated_in self.now n slots) result }
     {
         let node = &self.book.nodes()[n as usize - 1];
         match &node.formula {
@@ -43,9 +42,9 @@ impl Trial<'_> {
         slots: [u32; 6],
         budget: u32,
     ) -> Result<Evaluation, Cause>
-        requires left { Known (nodes_of self.now.book.now) left }
-        requires right { Known (nodes_of self.now.book.now) right }
-        ensures { Told budget (chained go_on (evaluated (nodes_of self.now.book.now) (world_of self.now.log.now) left (env_of (world_of self.now.log.now) slots)) (evaluated (nodes_of self.now.book.now) (world_of self.now.log.now) right (env_of (world_of self.now.log.now) slots))) result }
+        requires left { Known self.now left }
+        requires right { Known self.now right }
+        ensures { Told budget (chained go_on (evaluated_in self.now left slots) (evaluated_in self.now right slots)) result }
     {
         let l = self.evaluate(left, slots, budget)?;
         if l.truth != go_on {
@@ -61,9 +60,9 @@ impl Trial<'_> {
     // The elements of the class in turn, until the body's truth is what the quantifier wants.
     #[cycle(both_evaluate_walk)]
     fn walk(&self, q: Quantifier, slots: [u32; 6], budget: u32) -> Result<Evaluation, Cause>
-        requires body { Known (nodes_of self.now.book.now) q.body }
+        requires body { Known self.now q.body }
         requires slot { q.slot < slot_count }
-        ensures { Told budget (tried q.want q.class (λ vs. evaluated (nodes_of self.now.book.now) (world_of self.now.log.now) q.body (slice_set (env_of (world_of self.now.log.now) slots) q.slot vs)) (world_of self.now.log.now)) result }
+        ensures { Told budget (tried_in self.now q slots) result }
     {
         let mut visits: u32 = 0;
         for (i, e) in self.log.iter().enumerate() {

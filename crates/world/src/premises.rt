@@ -1,9 +1,6 @@
 // The premises of a book in a world.
-ghost use Rattle.std.specs.Prelude.{◌≡◌};
-ghost use Rattle.book.specs.Whole.{nodes_of};
-ghost use Rattle.world.specs.Worlds.{world_of};
-ghost use Rattle.world.specs.Test.{tested};
 ghost use Rattle.world.specs.Inner.{GivenWithin};
+ghost use Rattle.world.specs.Trials.{tested_in};
 
 use crate::elements::Trial;
 use crate::parts::{Answer, Verdict};
@@ -12,7 +9,7 @@ use causes::Cause;
 impl Trial<'_> {
     // By rising number, up to the first false one.
     pub(crate) fn try_premises(&self, budget: u32) -> Result<Answer, Cause>
-        ensures { GivenWithin budget (tested (nodes_of self.now.book.now) (world_of self.now.log.now)) result }
+        ensures { GivenWithin budget (tested_in self.now) result }
     {
         let mut visits: u32 = 0;
         for (i, node) in self.book.nodes().iter().enumerate() {

@@ -12,58 +12,58 @@ use Rattle.world.proofs.elements.Trial.+both_evaluate_walk.Goals as goal
 use Rattle.world.proofs.elements.Trial.+both_evaluate_walk.Goals.{walk-then-e-q+else-visits-budget+in_ok-b+else-b-q, walk-else-e-q}
 
 pub evaluate-worth-requires : goal.evaluate-worth-requires
-evaluate-worth-requires t c = arm_sound c.args.self.now c.requires c.nodes.ensures c.in-AtLeast.is
+evaluate-worth-requires t c = arm_sound c.requires c.nodes.ensures c.in-AtLeast.is
 
 pub evaluate-worth-requires-in-Equal : goal.evaluate-worth-requires-in-Equal
-evaluate-worth-requires-in-Equal t c = arm_sound c.args.self.now c.requires c.nodes.ensures c.in-Equal.is
+evaluate-worth-requires-in-Equal t c = arm_sound c.requires c.nodes.ensures c.in-Equal.is
 
 pub evaluate-both-requires : goal.evaluate-both-requires
 evaluate-both-requires t c =
-    let p = arm_sound c.args.self.now c.requires c.nodes.ensures c.in-And.is in
+    let p = arm_sound c.requires c.nodes.ensures c.in-And.is in
     (omega (arith, p.0.1, p.1.1, c.decreases), (known_before c.requires p.0, known_before c.requires p.1))
 
 pub evaluate-both-requires-in-Or : goal.evaluate-both-requires-in-Or
 evaluate-both-requires-in-Or t c =
-    let p = arm_sound c.args.self.now c.requires c.nodes.ensures c.in-Or.is in
+    let p = arm_sound c.requires c.nodes.ensures c.in-Or.is in
     (omega (arith, p.0.1, p.1.1, c.decreases), (known_before c.requires p.0, known_before c.requires p.1))
 
 pub evaluate-walk-requires : goal.evaluate-walk-requires
 evaluate-walk-requires t c =
-    let p = arm_sound c.args.self.now c.requires c.nodes.ensures c.in-Exists.is in
+    let p = arm_sound c.requires c.nodes.ensures c.in-Exists.is in
     rw (c.new.ensures, c.nodes.ensures) (omega (arith, p.0.1, c.decreases), (known_before c.requires p.0, p.1))
 
 pub evaluate-walk-requires-in-Every : goal.evaluate-walk-requires-in-Every
 evaluate-walk-requires-in-Every t c =
-    let p = arm_sound c.args.self.now c.requires c.nodes.ensures c.in-Every.is in
+    let p = arm_sound c.requires c.nodes.ensures c.in-Every.is in
     rw (c.new-in-Every.ensures, c.nodes.ensures) (omega (arith, p.0.1, c.decreases), (known_before c.requires p.0, p.1))
 
 pub evaluate-returns-in-AtLeast : goal.evaluate-returns-in-AtLeast
 evaluate-returns-in-AtLeast t c =
-    let e = arm_says c.args.self.now c.requires c.nodes.ensures c.in-AtLeast.is (env_of (world_of c.args.self.now.log.now) c.args.slots) in
+    let e = arm_says c.requires c.nodes.ensures c.in-AtLeast.is c.args.slots in
     let f : SFits w64 c.worth.result = record { sfits = c.worth.type_inv } in
     let z = ap (le_z (pos 0)) (to_z-of_z w64 c.worth.result f ∙ c.worth.ensures) in
     rw (c.at_once.ensures, e) (simp z, zero-le)
 
 pub evaluate-returns-in-Equal : goal.evaluate-returns-in-Equal
 evaluate-returns-in-Equal t c =
-    let e = arm_says c.args.self.now c.requires c.nodes.ensures c.in-Equal.is (env_of (world_of c.args.self.now.log.now) c.args.slots) in
+    let e = arm_says c.requires c.nodes.ensures c.in-Equal.is c.args.slots in
     let z = zero_bits c.worth-in-Equal.result c.worth-in-Equal.type_inv ∙ ap is_zero c.worth-in-Equal.ensures in
     rw (c.at_once-in-Equal.ensures, e) (simp z, zero-le)
 
 pub evaluate-returns-in-And : goal.evaluate-returns-in-And
-evaluate-returns-in-And t c = told_by c.args.budget c.both.result (arm_says c.args.self.now c.requires c.nodes.ensures c.in-And.is (env_of (world_of c.args.self.now.log.now) c.args.slots)) c.both.ensures
+evaluate-returns-in-And t c = told_by c.args.budget c.both.result (arm_says c.requires c.nodes.ensures c.in-And.is c.args.slots) c.both.ensures
 
 pub evaluate-returns-in-Or : goal.evaluate-returns-in-Or
-evaluate-returns-in-Or t c = told_by c.args.budget c.both-in-Or.result (arm_says c.args.self.now c.requires c.nodes.ensures c.in-Or.is (env_of (world_of c.args.self.now.log.now) c.args.slots)) c.both-in-Or.ensures
+evaluate-returns-in-Or t c = told_by c.args.budget c.both-in-Or.result (arm_says c.requires c.nodes.ensures c.in-Or.is c.args.slots) c.both-in-Or.ensures
 
 pub evaluate-returns-in-Exists : goal.evaluate-returns-in-Exists
 evaluate-returns-in-Exists t c =
-    let e = arm_says c.args.self.now c.requires c.nodes.ensures c.in-Exists.is (env_of (world_of c.args.self.now.log.now) c.args.slots) in
+    let e = arm_says c.requires c.nodes.ensures c.in-Exists.is c.args.slots in
     told_by c.args.budget c.walk.result e (rw (c.new.ensures, c.nodes.ensures) at c.walk.ensures)
 
 pub evaluate-returns-in-Every : goal.evaluate-returns-in-Every
 evaluate-returns-in-Every t c =
-    let e = arm_says c.args.self.now c.requires c.nodes.ensures c.in-Every.is (env_of (world_of c.args.self.now.log.now) c.args.slots) in
+    let e = arm_says c.requires c.nodes.ensures c.in-Every.is c.args.slots in
     told_by c.args.budget c.walk-in-Every.result e (rw (c.new-in-Every.ensures, c.nodes.ensures) at c.walk-in-Every.ensures)
 
 pub walk-loop-i-init : goal.walk-loop-i-init
