@@ -10,7 +10,8 @@ use Rattle.book.proofs.Tests.{heads_few}
 use Rattle.world.specs.Worlds.{world_of}
 use Rattle.world.specs.Truth.{evaluated}
 use Rattle.world.specs.Test.{then_rest, tested_from, tested}
-use Rattle.world.specs.Inner.{values_at, env_of, Told, GivenWithin}
+use Rattle.world.specs.Inner.{values_at, Told, GivenWithin}
+use Rattle.world.specs.Trials.{evaluated_in, tested_in}
 use Rattle.world.specs.declared.elements.Trial.{Trial}
 use Rattle.world.specs.declared.parts.Answer.{Answer}
 use Rattle.world.specs.declared.parts.Evaluation.{Evaluation}
@@ -24,64 +25,67 @@ later visits o = record { verdict = o.verdict; visits = visits + o.visits }
 abbrev pub rest_from : Trial → ℕ → Answer
 rest_from t i = tested_from (nodes_of t.book.now) (world_of t.log.now) (i + 1) (drop i (nodes_of t.book.now))
 
--- what the node at place i says, with no element in any slot
-abbrev pub said_at : Trial → ℕ → Evaluation
-said_at t i = evaluated (nodes_of t.book.now) (world_of t.log.now) (i + 1) (env_of (world_of t.log.now) (0 ∷ 0 ∷ 0 ∷ 0 ∷ 0 ∷ 0 ∷ []))
-
-abbrev pub Given : Trial → ℕ → Answer → Type 0
-Given t budget o = GivenWithin budget (tested (nodes_of t.book.now) (world_of t.log.now)) (Ok o)
+abbrev no_slots : List ℕ
+no_slots = 0 ∷ 0 ∷ 0 ∷ 0 ∷ 0 ∷ 0 ∷ []
 
 pub record Gone (t : Trial) (i budget visits : ℕ) : Type 0 where
   pub within : visits ≤ budget
-  pub so_far : tested (nodes_of t.book.now) (world_of t.log.now) ≡ later visits (rest_from t i)
+  pub so_far : tested_in t ≡ later visits (rest_from t i)
 
 pub gone_none : (t : Trial) (budget : ℕ) → Gone t 0 budget 0
 unfolding tested
 gone_none t budget = record { within = zero-le; so_far = simp zero-add }
 
-rest_least : (n : ℕ) (t : Bool) (v : ℕ) (rest : Answer) → v ≤ (then_rest n (record { truth = t; visits = v }) rest).visits
-rest_least n true v rest = omega arith
-rest_least n false v rest = omega arith
+rest_least : (n : ℕ) (o : Evaluation) (rest : Answer) → o.visits ≤ (then_rest n o rest).visits
+rest_least n o rest = grind arith
+
+given_ok : {budget : ℕ} {whole o : Answer} → whole ≡ o → o.visits ≤ budget → GivenWithin budget whole (Ok o)
+given_ok e h = (sym e, rw e h)
 
 pub few_nodes : (t : Trial) {ns : List Node} → ns ≡ nodes_of t.book.now → length ns ≤ most_nodes
 few_nodes t same = rw same (heads_few (classes_of t.book.now) (nodes_of t.book.now) t.book.now.rules.0)
 
 -- ns is the table that the code reads
 module _ {t : Trial} {i budget visits : ℕ} (at : Gone t i budget visits) {ns : List Node} (same : ns ≡ nodes_of t.book.now) where
-  given : {o : Answer} → tested (nodes_of t.book.now) (world_of t.log.now) ≡ o → o.visits ≤ budget → Given t budget o
-  given e h = (sym e, rw e h)
+  -- what the node at place i says
+  abbrev said : Evaluation
+  said = evaluated_in t (i + 1) no_slots
 
-  pub gone_ends : length ns ≤ i → Given t budget (record { verdict = Yes; visits = visits })
+  abbrev tail : Answer
+  tail = rest_from t (i + 1)
+
+  abbrev from_here : List Node → Answer
+  from_here xs = tested_from (nodes_of t.book.now) (world_of t.log.now) (i + 1) xs
+
+  pub gone_ends : length ns ≤ i → GivenWithin budget (tested_in t) (Ok (record { verdict = Yes; visits = visits }))
   gone_ends l =
-      let e : rest_from t i ≡ record { verdict = Yes; visits = 0 } = at_drop_all (tested_from (nodes_of t.book.now) (world_of t.log.now) (i + 1)) (nodes_of t.book.now) i (rw same at l) in
-      given (at.so_far ∙ ap (later visits) e ∙ simp add-zero) at.within
+      let e : rest_from t i ≡ record { verdict = Yes; visits = 0 } = at_drop_all from_here (nodes_of t.book.now) i (rw same at l) in
+      given_ok (at.so_far ∙ ap (later visits) e ∙ simp add-zero) at.within
 
   module _ (l : i < length ns) where
-    next : tested (nodes_of t.book.now) (world_of t.log.now) ≡ later visits (cond (get_or ns i no_node).premise (then_rest (i + 1) (said_at t i) (rest_from t (i + 1))) (rest_from t (i + 1)))
+    next : tested_in t ≡ later visits (cond (get_or ns i no_node).premise (then_rest (i + 1) said tail) tail)
     unfolding values_at
-    next = rw same (at.so_far ∙ ap (later visits) (at_drop_more (tested_from (nodes_of t.book.now) (world_of t.log.now) (i + 1)) (nodes_of t.book.now) i no_node (rw same at l)))
+    next = rw same (at.so_far ∙ ap (later visits) (at_drop_more from_here (nodes_of t.book.now) i no_node (rw same at l)))
 
     pub gone_skips : (get_or ns i no_node).premise ≡ false → Gone t (i + 1) budget visits
     gone_skips h = record { within = at.within; so_far = next ∙ simp h }
 
     module _ (marked : (get_or ns i no_node).premise ≡ true) where
-      met : tested (nodes_of t.book.now) (world_of t.log.now) ≡ later visits (then_rest (i + 1) (said_at t i) (rest_from t (i + 1)))
+      met : tested_in t ≡ later visits (then_rest (i + 1) said tail)
       met = next ∙ simp marked
 
-      pub gone_over : budget - visits < (said_at t i).visits → budget < (tested (nodes_of t.book.now) (world_of t.log.now)).visits
-      gone_over h =
-          let b = said_at t i in
-          rw met (omega (arith, h, rest_least (i + 1) b.truth b.visits (rest_from t (i + 1))))
+      pub gone_over : budget - visits < said.visits → budget < (tested_in t).visits
+      gone_over h = rw met (omega (arith, rest_least (i + 1) said tail))
 
-      module _ {b : Evaluation} (told : Told (budget - visits) (said_at t i) (Ok b)) where
-        after : tested (nodes_of t.book.now) (world_of t.log.now) ≡ later visits (then_rest (i + 1) b (rest_from t (i + 1)))
-        after = met ∙ ap (λ o. later visits (then_rest (i + 1) o (rest_from t (i + 1)))) (sym told.0)
+      module _ {b : Evaluation} (told : Told (budget - visits) said (Ok b)) where
+        after : tested_in t ≡ later visits (then_rest (i + 1) b tail)
+        after = met ∙ ap (λ o. later visits (then_rest (i + 1) o tail)) (sym told.0)
 
         fits : visits + b.visits ≤ budget
         fits = let e : b.visits ≤ budget - visits = rw told.0 told.1 in omega (arith, at.within)
 
-        pub gone_stops : not b.truth ≡ true → Given t budget (record { verdict = No (i + 1); visits = visits + b.visits })
-        gone_stops h = given (after ∙ simp (not-true b.truth h)) fits
+        pub gone_stops : not b.truth ≡ true → GivenWithin budget (tested_in t) (Ok (record { verdict = No (i + 1); visits = visits + b.visits }))
+        gone_stops h = given_ok (after ∙ simp (not-true b.truth h)) fits
 
         pub gone_goes : not b.truth ≡ false → Gone t (i + 1) budget (visits + b.visits)
         gone_goes h = record { within = fits; so_far = after ∙ simp (not-false b.truth h, add_assoc) }

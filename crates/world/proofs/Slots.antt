@@ -41,14 +41,5 @@ slot_set world slots d i =
 pub slot_reading : (world : World) (slots : List ℕ) (s a : ℕ) → s < length slots → get_or (values_at world (get_or slots s 0)) a (pos 0) ≡ reading (env_of world slots) s a
 slot_reading world slots s a l = ap (λ vs. get_or vs a (pos 0)) (sym (get_or-map (values_at world) slots s 0 [] l))
 
-pub class_at : (log : List Given) (i : ℕ) (d : Given) → i < length log → (get_or (world_of log) i no_element).class ≡ (get_or log i d).class
-class_at log i d l = ap (λ (x : Element). x.class) (world_at log i d l)
-
-pub inside : (log : List Given) (i : ℕ) → i < length log → i < length (world_of log)
-inside log i l = omega (arith, length_world log)
-
-pub outside : (log : List Given) (i : ℕ) → length log ≤ i → length (world_of log) ≤ i
-outside log i l = omega (arith, length_world log)
-
 pub element_next : (log : List Given) (i : ℕ) (d : Given) → i < length log → element_at (world_of log) (i + 1) ≡ element_of (get_or log i d)
 element_next log i d l = let e : i + 1 - 1 ≡ i = omega arith in ap (λ k. get_or (world_of log) k no_element) e ∙ world_at log i d l

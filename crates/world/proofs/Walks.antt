@@ -7,7 +7,8 @@ use Rattle.book.specs.Whole.{nodes_of}
 use Rattle.book.specs.declared.parts.Node.{Node}
 use Rattle.world.specs.Worlds.{World, Element, world_of, no_element}
 use Rattle.world.specs.Truth.{Env, chained, visited, tried, evaluated}
-use Rattle.world.specs.Inner.{env_of, Told}
+use Rattle.world.specs.Inner.{Told}
+use Rattle.world.specs.Trials.{env_in, evaluated_in, tried_in}
 use Rattle.world.specs.declared.elements.Trial.{Trial}
 use Rattle.world.specs.declared.parts.Evaluation.{Evaluation}
 use Rattle.world.specs.declared.parts.Quantifier.{Quantifier}
@@ -22,55 +23,45 @@ abbrev pub later : ℕ → Evaluation → Evaluation
 later visits o = record { truth = o.truth; visits = visits + o.visits }
 
 -- a try that decides, a try that does not, and what both count at least
-chain_stops : (want t : Bool) (n : ℕ) (rest : Evaluation) → beq t want ≡ true → chained (not want) (visited (record { truth = t; visits = n })) rest ≡ record { truth = want; visits = 1 + n }
-chain_stops true true n rest h = refl
-chain_stops true false n rest h = cc
-chain_stops false true n rest h = cc
-chain_stops false false n rest h = refl
+chain_stops : (want : Bool) (o rest : Evaluation) → beq o.truth want ≡ true → chained (not want) (visited o) rest ≡ record { truth = want; visits = 1 + o.visits }
+chain_stops want o rest h = grind arith
 
-chain_goes : (want t : Bool) (n : ℕ) (rest : Evaluation) → beq t want ≡ false → chained (not want) (visited (record { truth = t; visits = n })) rest ≡ later (1 + n) rest
-chain_goes true true n rest h = cc
-chain_goes true false n rest h = refl
-chain_goes false true n rest h = refl
-chain_goes false false n rest h = cc
+chain_goes : (want : Bool) (o rest : Evaluation) → beq o.truth want ≡ false → chained (not want) (visited o) rest ≡ later (1 + o.visits) rest
+chain_goes want o rest h = grind arith
 
-chain_least : (g t : Bool) (n : ℕ) (rest : Evaluation) → 1 + n ≤ (chained g (visited (record { truth = t; visits = n })) rest).visits
-chain_least true true n rest = omega arith
-chain_least true false n rest = omega arith
-chain_least false true n rest = omega arith
-chain_least false false n rest = omega arith
+chain_least : (want : Bool) (o rest : Evaluation) → 1 + o.visits ≤ (chained want (visited o) rest).visits
+chain_least want o rest = grind arith
 
 told_ok : {budget : ℕ} {whole o : Evaluation} → whole ≡ o → o.visits ≤ budget → Told budget whole (Ok o)
 told_ok e h = (sym e, rw e h)
 
--- what is said of the elements from place i on, and of all
-abbrev tried_from : Trial → Quantifier → List ℕ → ℕ → Evaluation
-tried_from t q slots i =
-    let w = world_of t.log.now in
-    tried q.want q.class (body_of (nodes_of t.book.now) w q.body (env_of w slots) q.slot) (drop i w)
-
--- what the body says with element i in its slot
-abbrev said_of : Trial → Quantifier → List ℕ → ℕ → Evaluation
-said_of t q slots i =
-    let w = world_of t.log.now in
-    evaluated (nodes_of t.book.now) w q.body (env_of w (set slots q.slot (i + 1)))
+-- what a quantifier says of the elements from place i on
+abbrev pub rest_from : Trial → Quantifier → List ℕ → ℕ → Evaluation
+rest_from t q slots i = tried q.want q.class (body_of (nodes_of t.book.now) (world_of t.log.now) q.body (env_in t slots) q.slot) (drop i (world_of t.log.now))
 
 pub record Walked (t : Trial) (q : Quantifier) (slots : List ℕ) (i budget visits : ℕ) : Type 0 where
   pub within : visits ≤ budget
-  pub so_far : tried_from t q slots 0 ≡ later visits (tried_from t q slots i)
+  pub so_far : tried_in t q slots ≡ later visits (rest_from t q slots i)
 
 module _ {t : Trial} {q : Quantifier} {slots : List ℕ} {i budget visits : ℕ} (at : Walked t q slots i budget visits) where
-  pub walk_ends : length t.log.now ≤ i → Told budget (tried_from t q slots 0) (Ok (record { truth = not q.want; visits = visits }))
+  -- what the body says of the element at place i
+  abbrev said : Evaluation
+  said = evaluated_in t q.body (set slots q.slot (i + 1))
+
+  abbrev tail : Evaluation
+  tail = rest_from t q slots (i + 1)
+
+  abbrev from_here : World → Evaluation
+  from_here w = tried q.want q.class (body_of (nodes_of t.book.now) (world_of t.log.now) q.body (env_in t slots) q.slot) w
+
+  pub walk_ends : length t.log.now ≤ i → Told budget (tried_in t q slots) (Ok (record { truth = not q.want; visits = visits }))
   walk_ends l =
-      let w = world_of t.log.now in
-      let e : tried_from t q slots i ≡ record { truth = not q.want; visits = 0 } = at_drop_all (tried q.want q.class (body_of (nodes_of t.book.now) w q.body (env_of w slots) q.slot)) w i (omega (arith, length_world t.log.now)) in
+      let e : rest_from t q slots i ≡ record { truth = not q.want; visits = 0 } = at_drop_all from_here (world_of t.log.now) i (omega (arith, length_world t.log.now)) in
       told_ok (at.so_far ∙ ap (later visits) e ∙ simp add-zero) at.within
 
   module _ (l : i < length t.log.now) where
-    next : tried_from t q slots 0 ≡ later visits (tried q.want q.class (body_of (nodes_of t.book.now) (world_of t.log.now) q.body (env_of (world_of t.log.now) slots) q.slot) (get_or (world_of t.log.now) i no_element ∷ drop (i + 1) (world_of t.log.now)))
-    next =
-        let w = world_of t.log.now in
-        at.so_far ∙ ap (later visits) (at_drop_more (tried q.want q.class (body_of (nodes_of t.book.now) w q.body (env_of w slots) q.slot)) w i no_element (omega (arith, length_world t.log.now)))
+    next : tried_in t q slots ≡ later visits (from_here (get_or (world_of t.log.now) i no_element ∷ drop (i + 1) (world_of t.log.now)))
+    next = at.so_far ∙ ap (later visits) (at_drop_more from_here (world_of t.log.now) i no_element (omega (arith, length_world t.log.now)))
 
     class_is : (get_or (world_of t.log.now) i no_element).class ≡ (get_or t.log.now i no_given).class
     class_is = ap (λ (x : Element). x.class) (world_at t.log.now i no_given l)
@@ -79,35 +70,27 @@ module _ {t : Trial} {q : Quantifier} {slots : List ℕ} {i budget visits : ℕ}
     walk_skips ne = record { within = at.within; so_far = next ∙ simp (ne_eqb _ q.class (λ e. ne (sym class_is ∙ e))) }
 
     module _ (is : (get_or t.log.now i no_given).class ≡ q.class) where
-      met : tried_from t q slots 0 ≡ later visits (chained (not q.want) (visited (said_of t q slots i)) (tried_from t q slots (i + 1)))
-      met =
-          let s = slot_set (world_of t.log.now) slots q.slot i in
-          rw s (next ∙ simp (eq-eqb _ q.class (class_is ∙ is)))
+      met : tried_in t q slots ≡ later visits (chained (not q.want) (visited said) tail)
+      met = rw (slot_set (world_of t.log.now) slots q.slot i) (next ∙ simp (eq-eqb _ q.class (class_is ∙ is)))
 
-      least : visits + (1 + (said_of t q slots i).visits) ≤ (tried_from t q slots 0).visits
-      least =
-          let b = said_of t q slots i in
-          rw met (omega (arith, chain_least (not q.want) b.truth b.visits (tried_from t q slots (i + 1))))
+      least : visits + (1 + said.visits) ≤ (tried_in t q slots).visits
+      least = rw met (omega (arith, chain_least (not q.want) said tail))
 
-      pub walk_spent : visits ≡ budget → budget < (tried_from t q slots 0).visits
+      pub walk_spent : visits ≡ budget → budget < (tried_in t q slots).visits
       walk_spent e = omega (arith, least)
 
-      pub walk_over : budget - (visits + 1) < (said_of t q slots i).visits → budget < (tried_from t q slots 0).visits
+      pub walk_over : budget - (visits + 1) < said.visits → budget < (tried_in t q slots).visits
       walk_over e = omega (arith, least)
 
-      module _ {b : Evaluation} (ne : visits ≡ budget → ⊥) (told : Told (budget - (visits + 1)) (said_of t q slots i) (Ok b)) where
-        after : tried_from t q slots 0 ≡ later visits (chained (not q.want) (visited b) (tried_from t q slots (i + 1)))
-        after = met ∙ ap (λ o. later visits (chained (not q.want) (visited o) (tried_from t q slots (i + 1)))) (sym told.0)
+      module _ {b : Evaluation} (ne : visits ≡ budget → ⊥) (told : Told (budget - (visits + 1)) said (Ok b)) where
+        after : tried_in t q slots ≡ later visits (chained (not q.want) (visited b) tail)
+        after = met ∙ ap (λ o. later visits (chained (not q.want) (visited o) tail)) (sym told.0)
 
         fits : visits + 1 + b.visits ≤ budget
         fits = let e : b.visits ≤ budget - (visits + 1) = rw told.0 told.1 in omega (arith, at.within)
 
-        pub walk_stops : beq b.truth q.want ≡ true → Told budget (tried_from t q slots 0) (Ok (record { truth = q.want; visits = visits + 1 + b.visits }))
-        walk_stops h =
-            let e = chain_stops q.want b.truth b.visits (tried_from t q slots (i + 1)) h in
-            told_ok (after ∙ ap (later visits) e ∙ simp add_assoc) fits
+        pub walk_stops : beq b.truth q.want ≡ true → Told budget (tried_in t q slots) (Ok (record { truth = q.want; visits = visits + 1 + b.visits }))
+        walk_stops h = told_ok (after ∙ ap (later visits) (chain_stops q.want b tail h) ∙ simp add_assoc) fits
 
         pub walk_goes : beq b.truth q.want ≡ false → Walked t q slots (i + 1) budget (visits + 1 + b.visits)
-        walk_goes h =
-            let e = chain_goes q.want b.truth b.visits (tried_from t q slots (i + 1)) h in
-            record { within = fits; so_far = after ∙ ap (later visits) e ∙ simp add_assoc }
+        walk_goes h = record { within = fits; so_far = after ∙ ap (later visits) (chain_goes q.want b tail h) ∙ simp add_assoc }
