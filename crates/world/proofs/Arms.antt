@@ -1,5 +1,5 @@
 -- A node of the book, as the code finds it.
-use Rattle.std.proofs.Common.{◌≡◌, ℕ, ◌^◌, ◌<◌, eqb, List, ℤ, pos, negsuc, Result, sym, refl, ap, ◌∙◌, subst, arith, w64, of_z}
+use Rattle.std.proofs.Common.{◌≡◌, ℕ, ◌^◌, ◌<◌, eqb, List, ℤ, pos, negsuc, Result, sym, refl, subst, arith, w64, of_z}
 use lib.Signed.{mag}
 use Rattle.std.proofs.lemmas.Bool.Decides.{nat_tests}
 use Rattle.causes.specs.declared.cause.Cause.{Cause}

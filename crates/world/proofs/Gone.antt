@@ -1,5 +1,5 @@
 -- How the test goes from premise to premise: what is left tells the whole.
-use Rattle.std.proofs.Common.{◌≡◌, ℕ, ◌+◌, ◌-◌, ◌<◌, ◌≤◌, Bool, true, false, cond, not, List, [], ◌∷◌, length, get_or, drop, Ok, sym, ap, ◌∙◌, zero-le, add-zero, zero-add, add_assoc, arith}
+use Rattle.std.proofs.Common.{◌≡◌, ℕ, ◌+◌, ◌-◌, ◌<◌, ◌≤◌, true, false, cond, not, List, [], ◌∷◌, length, get_or, drop, Ok, sym, ap, ◌∙◌, zero-le, add-zero, zero-add, add_assoc, arith}
 use Rattle.std.proofs.lemmas.List.{at_drop_more, at_drop_all}
 use Rattle.std.proofs.lemmas.Bool.{not-true, not-false}
 use Rattle.book.specs.Limits.{most_nodes}
@@ -8,7 +8,6 @@ use Rattle.book.specs.Whole.{classes_of, nodes_of}
 use Rattle.book.specs.declared.parts.Node.{Node}
 use Rattle.book.proofs.Tests.{heads_few}
 use Rattle.world.specs.Worlds.{world_of}
-use Rattle.world.specs.Truth.{evaluated}
 use Rattle.world.specs.Test.{then_rest, tested_from, tested}
 use Rattle.world.specs.Inner.{values_at, Told, GivenWithin}
 use Rattle.world.specs.Trials.{evaluated_in, tested_in}

@@ -1,12 +1,11 @@
 -- What a node says, by what the nodes that it names say.
-use Rattle.std.proofs.Common.{◌≡◌, ℕ, zero, suc, ◌<◌, ◌≤◌, true, false, ◌&&◌, eqb, ltb, leb, List, [], ◌∷◌, length, get_or, set, ℤ, nat_abs, refl, ap, ◌∙◌, subst, arith}
+use Rattle.std.proofs.Common.{◌≡◌, ℕ, zero, suc, ◌<◌, ◌≤◌, true, false, List, length, set, ℤ, refl, ap, ◌∙◌, subst, arith}
 use mathlib.Core.Path.{fun_ext}
 use Rattle.std.proofs.lemmas.Bool.Decides.{nat_tests}
 use Rattle.std.proofs.lemmas.List.Recursion.{and_at}
-use Rattle.std.proofs.lemmas.Bool.{and_parts, leb-true, ltb-true, eqb-true}
-use Rattle.book.specs.Limits.{slot_count, most_terms, largest_coefficient}
+use Rattle.book.specs.Limits.{slot_count}
 use Rattle.book.specs.Lowest.{HoldsTo}
-use Rattle.book.specs.Rules.{depth_of, same_scope_lem, widened, is_class, slots_ok, scope_ok, term_ok, terms_ok, terms_of, atom_ok, child_ok, body_ok, formula_ok, node_ok, node_at, no_term}
+use Rattle.book.specs.Rules.{depth_of, term_ok, terms_ok, terms_of, atom_ok, body_ok, formula_ok, node_ok, node_at, no_term}
 use Rattle.book.specs.declared.parts.Atom.{Atom}
 use Rattle.book.specs.declared.parts.Class.{Class}
 use Rattle.book.specs.declared.parts.Term.{Term}

@@ -6,7 +6,6 @@ use Rattle.book.specs.Limits.{most_terms, slot_count, largest_coefficient}
 use Rattle.book.specs.Rules.{no_term, terms_of}
 use Rattle.book.specs.declared.parts.Atom.{Atom}
 use Rattle.book.specs.declared.parts.Class.{Class}
-use Rattle.book.specs.declared.parts.Node.{Node}
 use Rattle.book.specs.declared.parts.Term.{Term}
 use Rattle.world.specs.Worlds.{World, no_element}
 use Rattle.world.specs.Truth.{Env}

@@ -2,9 +2,7 @@ use Rattle.std.proofs.Common.{pos, ◌∙◌, ap, zero-add, zero-le, arith, w64,
 use lib.Signed.{le_z}
 use Rattle.std.proofs.lemmas.Int.{to_z-of_z}
 use Rattle.std.proofs.lemmas.Result.{err_from_is_err_and}
-use Rattle.world.specs.Worlds.{world_of}
 use Rattle.world.specs.Truth.{is_zero}
-use Rattle.world.specs.Inner.{env_of}
 use Rattle.world.proofs.Arms.{arm_sound, arm_says, known_before, told_by, zero_bits}
 use Rattle.world.proofs.Slots.{length_world}
 use Rattle.world.proofs.Walks.{walk_ends, walk_skips, walk_spent, walk_over, walk_stops, walk_goes}
