@@ -1,6 +1,6 @@
 -- How the test goes from premise to premise: what is left tells the whole.
-use Rattle.std.proofs.Common.{◌≡◌, ℕ, ◌+◌, ◌-◌, ◌<◌, ◌≤◌, true, false, cond, not, List, [], ◌∷◌, length, get_or, drop, Ok, sym, ap, ◌∙◌, zero-le, add-zero, zero-add, add_assoc, arith}
-use Rattle.std.proofs.lemmas.List.{at_drop_more, at_drop_all}
+use Rattle.std.proofs.Common.{◌≡◌, ℕ, ◌+◌, ◌-◌, ◌<◌, ◌≤◌, true, false, cond, not, List, [], ◌∷◌, length, get_or, drop, Ok, sym, ap, ◌∙◌, zero-le, zero-add, add_assoc, arith}
+use Rattle.std.proofs.lemmas.List.{at_drop_more}
 use Rattle.std.proofs.lemmas.Bool.{not-true, not-false}
 use Rattle.book.specs.Limits.{most_nodes}
 use Rattle.book.specs.Rules.{no_node}
@@ -14,7 +14,7 @@ use Rattle.world.specs.Trials.{evaluated_in, tested_in}
 use Rattle.world.specs.declared.elements.Trial.{Trial}
 use Rattle.world.specs.declared.parts.Answer.{Answer}
 use Rattle.world.specs.declared.parts.Evaluation.{Evaluation}
-use Rattle.world.specs.declared.parts.Verdict.TheVariants.{Yes, No}
+use Rattle.world.specs.declared.parts.Verdict.TheVariants.{No}
 
 -- an answer after some visits
 abbrev pub later : ℕ → Answer → Answer
@@ -55,11 +55,6 @@ module _ {t : Trial} {i budget visits : ℕ} (at : Gone t i budget visits) {ns :
 
   abbrev from_here : List Node → Answer
   from_here xs = tested_from (nodes_of t.book.now) (world_of t.log.now) (i + 1) xs
-
-  pub gone_ends : length ns ≤ i → GivenWithin budget (tested_in t) (Ok (record { verdict = Yes; visits = visits }))
-  gone_ends l =
-      let e : rest_from t i ≡ record { verdict = Yes; visits = 0 } = at_drop_all from_here (nodes_of t.book.now) i (rw same at l) in
-      given_ok (at.so_far ∙ ap (later visits) e ∙ simp add-zero) at.within
 
   module _ (l : i < length ns) where
     next : tested_in t ≡ later visits (cond (get_or ns i no_node).premise (then_rest (i + 1) said tail) tail)

@@ -1,7 +1,7 @@
 -- How a quantifier's walk goes on: what is left to try tells the whole.
-use Rattle.std.proofs.Common.{◌≡◌, ℕ, ◌+◌, ◌-◌, ◌<◌, ◌≤◌, Bool, true, false, not, List, ◌∷◌, length, get_or, drop, set, ℤ, Ok, sym, ap, ◌∙◌, add-zero, add_assoc, arith}
+use Rattle.std.proofs.Common.{◌≡◌, ℕ, ◌+◌, ◌-◌, ◌<◌, ◌≤◌, Bool, true, false, not, List, ◌∷◌, length, get_or, drop, set, ℤ, Ok, sym, ap, ◌∙◌, add_assoc, arith}
 use mathlib.Core.Bool.{beq}
-use Rattle.std.proofs.lemmas.List.{at_drop_more, at_drop_all}
+use Rattle.std.proofs.lemmas.List.{at_drop_more}
 use Rattle.std.proofs.lemmas.Bool.{eq-eqb, ne_eqb}
 use Rattle.book.specs.Whole.{nodes_of}
 use Rattle.book.specs.declared.parts.Node.{Node}
@@ -53,11 +53,6 @@ module _ {t : Trial} {q : Quantifier} {slots : List ℕ} {i budget visits : ℕ}
 
   abbrev from_here : World → Evaluation
   from_here w = tried q.want q.class (body_of (nodes_of t.book.now) (world_of t.log.now) q.body (env_in t slots) q.slot) w
-
-  pub walk_ends : length t.log.now ≤ i → Told budget (tried_in t q slots) (Ok (record { truth = not q.want; visits = visits }))
-  walk_ends l =
-      let e : rest_from t q slots i ≡ record { truth = not q.want; visits = 0 } = at_drop_all from_here (world_of t.log.now) i (omega (arith, length_world t.log.now)) in
-      told_ok (at.so_far ∙ ap (later visits) e ∙ simp add-zero) at.within
 
   module _ (l : i < length t.log.now) where
     next : tried_in t q slots ≡ later visits (from_here (get_or (world_of t.log.now) i no_element ∷ drop (i + 1) (world_of t.log.now)))

@@ -1,11 +1,10 @@
-use Rattle.std.proofs.Common.{pos, ◌∙◌, ap, zero-add, zero-le, arith, w64, SFits, refl}
+use Rattle.std.proofs.Common.{pos, ◌∙◌, ap, zero-le, arith, w64, SFits, refl}
 use lib.Signed.{le_z}
 use Rattle.std.proofs.lemmas.Int.{to_z-of_z}
 use Rattle.std.proofs.lemmas.Result.{err_from_is_err_and}
 use Rattle.world.specs.Truth.{is_zero}
 use Rattle.world.proofs.Arms.{arm_sound, arm_says, known_before, told_by, zero_bits}
-use Rattle.world.proofs.Slots.{length_world}
-use Rattle.world.proofs.Walks.{walk_ends, walk_skips, walk_spent, walk_over, walk_stops, walk_goes}
+use Rattle.world.proofs.Walks.{walk_skips, walk_spent, walk_over, walk_stops, walk_goes}
 use Rattle.world.proofs.elements.Trial.+both_evaluate_walk.Goals as goal
 use Rattle.world.proofs.elements.Trial.+both_evaluate_walk.Goals.{walk-then-e-q+else-visits-budget+in_ok-b+else-b-q, walk-else-e-q}
 
@@ -64,17 +63,8 @@ evaluate-returns-in-Every t c =
     let e = arm_says c.requires c.nodes.ensures c.in-Every.is c.args.slots in
     told_by c.args.budget c.walk-in-Every.result e (rw (c.new-in-Every.ensures, c.nodes.ensures) at c.walk-in-Every.ensures)
 
-pub walk-loop-i-init : goal.walk-loop-i-init
-walk-loop-i-init t c = record { within = zero-le; so_far = simp zero-add }
-
 pub walk-returns-then-visits-budget : goal.walk-returns-then-visits-budget
 walk-returns-then-visits-budget t c = (refl, walk_spent c.loop-i.invariant c.loop-i-test.true c.if-e-q.true c.if-visits-budget.true)
-
-pub walk-overflow_cast-inner : goal.walk-overflow_cast-inner
-walk-overflow_cast-inner t c = omega (arith, c.args.self.now.testable.few, length_world c.args.self.now.log.now)
-
-pub walk-overflow_add-inner : goal.walk-overflow_add-inner
-walk-overflow_add-inner t c = omega (arith, c.args.self.now.testable.few, length_world c.args.self.now.log.now)
 
 pub walk-returns-in_err-b : goal.walk-returns-in_err-b
 walk-returns-in_err-b t c =
@@ -92,6 +82,3 @@ walk-loop-i-preserved t c =
           rw w.visits-is (walk_goes c.loop-i.invariant c.loop-i-test.true w.if-e-q.true w.if-visits-budget.false w.in_ok-b.ensures w.if-b-q.false)
       | walk-else-e-q w ↦ rw w.visits-is (walk_skips c.loop-i.invariant c.loop-i-test.true w.if-e-q.false)
     ]
-
-pub walk-returns : goal.walk-returns
-walk-returns t c = walk_ends c.loop-i.invariant c.loop-i-test.false

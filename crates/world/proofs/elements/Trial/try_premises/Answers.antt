@@ -1,6 +1,6 @@
 use Rattle.std.proofs.Common.{◌∙◌, arith}
 use Rattle.std.proofs.lemmas.Result.{err_from_is_err_and}
-use Rattle.world.proofs.Gone.{few_nodes, gone_none, gone_ends, gone_skips, gone_over, gone_stops, gone_goes}
+use Rattle.world.proofs.Gone.{few_nodes, gone_none, gone_skips, gone_over, gone_stops, gone_goes}
 use Rattle.world.proofs.elements.Trial.try_premises.Goals as goal
 use Rattle.world.proofs.elements.Trial.try_premises.Goals.{then-node+in_ok-seen+else-not-seen, else-node}
 
@@ -29,6 +29,3 @@ loop-i-preserved c =
           rw w.visits-is (gone_goes c.loop-i.invariant c.nodes-node-items.ensures c.loop-i-test.true w.if-node.true w.in_ok-seen.ensures w.if-not-seen.false)
       | else-node w ↦ rw w.visits-is (gone_skips c.loop-i.invariant c.nodes-node-items.ensures c.loop-i-test.true w.if-node.false)
     ]
-
-pub returns : goal.returns
-returns c = gone_ends c.loop-i.invariant c.nodes-node-items.ensures c.loop-i-test.false

@@ -14,9 +14,6 @@ loop-t-init c =
     let f : SFits w32 c.args.a.now.constant = search rules in
     record { so_far = omega (arith, ints); size = omega (arith, ints) }
 
-pub part-sum-requires : goal.part-sum-requires
-part-sum-requires c = c.requires.each c.loop-t.t-index c.loop-t-test.true
-
 pub loop-t-preserved : goal.loop-t-preserved
 loop-t-preserved c =
     let few : c.loop-t.t-index < most_terms = search rules in
