@@ -34,8 +34,9 @@ fn values_fit(values: &[i64]) -> bool
 fn element_fits(book: &Book, e: &Element) -> bool
     ensures { result ≡ element_ok (classes_of book.now) (element_of e.now) }
 {
-    book.attributes(e.class).is_some_and(|count| e.values.len() == count as usize
-        && values_fit(e.values))
+    book.attributes(e.class).is_some_and(|count| {
+        e.values.len() == count as usize && values_fit(e.values)
+    })
 }
 
 impl<'a> Trial<'a> {
