@@ -2,11 +2,11 @@
 use Rattle.std.proofs.Common.{◌≡◌, ℕ, ◌+◌, ◌-◌, ◌<◌, ◌≤◌, true, false, cond, not, List, [], ◌∷◌, length, get_or, drop, Ok, sym, ap, ◌∙◌, zero-le, zero-add, add_assoc, arith}
 use Rattle.std.proofs.lemmas.List.{at_drop_more}
 use Rattle.std.proofs.lemmas.Bool.{not-true, not-false}
+use Rattle.std.proofs.lemmas.Bool.Decides.{nat_tests}
 use Rattle.book.specs.Limits.{most_nodes}
-use Rattle.book.specs.Rules.{no_node}
-use Rattle.book.specs.Whole.{classes_of, nodes_of}
+use Rattle.book.specs.Rules.{no_node, heads_ok}
+use Rattle.book.specs.Whole.{nodes_of}
 use Rattle.book.specs.declared.parts.Node.{Node}
-use Rattle.book.proofs.Tests.{heads_few}
 use Rattle.world.specs.Worlds.{world_of}
 use Rattle.world.specs.Test.{then_rest, tested_from, tested}
 use Rattle.world.specs.Inner.{values_at, Told, GivenWithin}
@@ -42,7 +42,8 @@ given_ok : {budget : ℕ} {whole o : Answer} → whole ≡ o → o.visits ≤ bu
 given_ok e h = (sym e, rw e h)
 
 pub few_nodes : (t : Trial) {ns : List Node} → ns ≡ nodes_of t.book.now → length ns ≤ most_nodes
-few_nodes t same = rw same (heads_few (classes_of t.book.now) (nodes_of t.book.now) t.book.now.rules.0)
+unfolding heads_ok
+few_nodes t same = let h = t.book.now.rules.0 in rw same (grind (arith, nat_tests))
 
 -- ns is the table that the code reads
 module _ {t : Trial} {i budget visits : ℕ} (at : Gone t i budget visits) {ns : List Node} (same : ns ≡ nodes_of t.book.now) where

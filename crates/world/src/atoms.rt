@@ -1,5 +1,5 @@
 // What an atom is worth: an exact sum.
-ghost use Rattle.std.specs.Prelude.{◌≡◌, ◌*◌, ◌≤◌, pos, slice_index_or, unsigned_abs, unwrap_or};
+ghost use Rattle.std.specs.Prelude.{◌≡◌, ◌*◌, ◌≤◌, slice_get, unsigned_abs};
 ghost use Rattle.book.specs.Limits.{largest_coefficient};
 ghost use Rattle.world.specs.Worlds.{world_of, largest_value};
 ghost use Rattle.world.specs.Truth.{product, worth as meaning};
@@ -12,7 +12,7 @@ use book::{Atom, Term};
 impl Trial<'_> {
     // An attribute of the element with this number, where there is one.
     fn value(&self, number: u32, attribute: u32) -> Option<i64>
-        ensures { unwrap_or result (pos 0) ≡ slice_index_or (values_at (world_of self.now.log.now) number) attribute (pos 0) }
+        ensures { result ≡ slice_get (values_at (world_of self.now.log.now) number) attribute }
     {
         let e = self.log.get((number as usize).checked_sub(1)?)?;
         e.values.get(attribute as usize).copied()

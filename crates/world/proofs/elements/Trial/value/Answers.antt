@@ -1,4 +1,6 @@
-use Rattle.std.proofs.Common.{◌≡◌, get_or, pos, unwrap_or, arith, rules}
+use Rattle.std.proofs.Common.{◌≡◌, slice_get, arith}
+use Rattle.std.proofs.lemmas.Grind.{common_steps}
+use Rattle.std.proofs.lemmas.Option.{gets}
 use Rattle.world.specs.Inner.{values_at}
 use Rattle.world.proofs.Slots.{values_in, values_past}
 use Rattle.world.proofs.elements.Trial.value.Goals as goal
@@ -20,5 +22,5 @@ pub returns : goal.returns
 returns c =
     let n = c.in_ok-checked_sub.ensures in
     let e = c.in_ok-e.ensures.lookup in
-    let v : unwrap_or c.copied.result (pos 0) ≡ get_or c.in_ok-e.e.now.values.now c.args.attribute (pos 0) = search rules in
+    let v : c.copied.result ≡ slice_get c.in_ok-e.e.now.values.now c.args.attribute = grind (arith, common_steps, gets) in
     rw (values_in c.args.self.now.log.now c.args.number c.in_ok-e.e.now n.0 (omega (arith, e.3.0)) (rw n.1 at e.1)) v

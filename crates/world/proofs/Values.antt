@@ -30,5 +30,6 @@ value_small classes world t (suc j) a =
     (λ (g : length world ≤ j). subst (λ (x : Element). nat_abs (get_or x.values a (pos 0)) ≤ largest_value) (sym (get_or_past world j no_element g)) zero-le)
     (cases_lt j (length world))
 
+-- the same of a trial
 pub small : (t : Trial) (k a : ℕ) → nat_abs (get_or (values_at (world_of t.log.now) k) a (pos 0)) ≤ largest_value
 small t = value_small (classes_of t.book.now) (world_of t.log.now) t.testable
