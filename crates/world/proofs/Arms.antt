@@ -1,35 +1,33 @@
--- A node of a made book, as the code finds it.
-use Rattle.std.proofs.Common.{◌≡◌, ℕ, ◌^◌, ◌<◌, eqb, List, ℤ, pos, negsuc, Result, sym, refl, ap, ◌∙◌, subst, arith, w64, of_z}
+-- A node of the book, as the code finds it.
+use Rattle.std.proofs.Common.{◌≡◌, ℕ, ◌^◌, ◌<◌, eqb, List, ℤ, pos, negsuc, Result, sym, refl, subst, arith, w64, of_z}
 use lib.Signed.{mag}
 use Rattle.std.proofs.lemmas.Bool.Decides.{nat_tests}
 use Rattle.causes.specs.declared.cause.Cause.{Cause}
 use Rattle.book.specs.Rules.{depth_of, node_at}
 use Rattle.book.specs.Whole.{classes_of, nodes_of}
-use Rattle.book.specs.declared.made.Book.{Book}
 use Rattle.book.specs.declared.parts.Formula.{Formula}
 use Rattle.book.specs.declared.parts.Node.{Node}
-use Rattle.world.specs.Worlds.{World}
-use Rattle.world.specs.Truth.{Env, said, evaluated, is_zero}
-use Rattle.world.specs.Inner.{Ready, Told}
+use Rattle.world.specs.Worlds.{world_of}
+use Rattle.world.specs.Truth.{said, evaluated, is_zero}
+use Rattle.world.specs.Inner.{Told}
+use Rattle.world.specs.Trials.{Known, env_in, evaluated_in}
+use Rattle.world.specs.declared.elements.Trial.{Trial}
 use Rattle.world.specs.declared.parts.Evaluation.{Evaluation}
 use Rattle.world.proofs.Nodes.{Before, Sound, sound_at, evaluated_is}
 
 -- ns is the table that the code reads
-module _ (b : Book) (world : World) (n : ℕ) (ready : Ready (nodes_of b) world n) (ns : List Node) (same : ns ≡ nodes_of b) where
-  arm_is : {f : Formula} → (node_at ns n).formula ≡ f → (node_at (nodes_of b) n).formula ≡ f
-  arm_is is = ap (λ (xs : List Node). (node_at xs n).formula) (sym same) ∙ is
+module _ {t : Trial} {n : ℕ} (known : Known t n) {ns : List Node} (same : ns ≡ nodes_of t.book.now) {f : Formula} (is : (node_at ns n).formula ≡ f) where
+  here : (node_at (nodes_of t.book.now) n).formula ≡ f
+  here = rw same at is
 
-  pub arm_sound : {f : Formula} → (node_at ns n).formula ≡ f → Sound n (depth_of (node_at (nodes_of b) n).scope) f
-  arm_sound is = sound_at (classes_of b) (nodes_of b) b.rules.1 n ready.low ready.high (arm_is is)
+  pub arm_sound : Sound n (depth_of (node_at (nodes_of t.book.now) n).scope) f
+  arm_sound = sound_at (classes_of t.book.now) (nodes_of t.book.now) t.book.now.rules.1 n known.low known.high here
 
-  pub arm_says : (env : Env) {f : Formula} → (node_at ns n).formula ≡ f → evaluated (nodes_of b) world n env ≡ said (evaluated (nodes_of b) world) world (depth_of (node_at (nodes_of b) n).scope) env f
-  arm_says env is = evaluated_is (classes_of b) (nodes_of b) b.rules.1 world n ready.low ready.high env (arm_is is)
+  pub arm_says : (slots : List ℕ) → evaluated_in t n slots ≡ said (evaluated (nodes_of t.book.now) (world_of t.log.now)) (world_of t.log.now) (depth_of (node_at (nodes_of t.book.now) n).scope) (env_in t slots) f
+  arm_says slots = evaluated_is (classes_of t.book.now) (nodes_of t.book.now) t.book.now.rules.1 (world_of t.log.now) n known.low known.high (env_in t slots) here
 
-  pub arm_depth : (d : ℕ) → d ≡ depth_of (node_at ns n).scope → d ≡ depth_of (node_at (nodes_of b) n).scope
-  arm_depth d e = e ∙ ap (λ (xs : List Node). depth_of (node_at xs n).scope) same
-
-pub ready_before : {nodes : List Node} {world : World} (n k : ℕ) → Ready nodes world n → Before n k → Ready nodes world k
-ready_before n k ready p = record { low = p.0; high = omega (arith, ready.high, p.1); few = ready.few; calm = ready.calm }
+pub known_before : {t : Trial} {n k : ℕ} → Known t n → Before n k → Known t k
+known_before known p = record { low = p.0; high = omega (arith, known.high, p.1) }
 
 pub told_by : (budget : ℕ) {o p : Evaluation} (r : Result Evaluation Cause) → o ≡ p → Told budget p r → Told budget o r
 told_by budget r e t = subst (λ o. Told budget o r) (sym e) t

@@ -1,88 +1,86 @@
 -- How the test goes from premise to premise: what is left tells the whole.
-use Rattle.std.proofs.Common.{◌≡◌, ℕ, ◌+◌, ◌-◌, ◌<◌, ◌≤◌, Bool, true, false, cond, List, length, get_or, drop, sym, refl, ap, ◌∙◌, subst, arith}
-use Rattle.std.proofs.lemmas.List.{at_drop_more, at_drop_all}
-use Rattle.book.specs.Rules.{no_node}
+use Rattle.std.proofs.Common.{◌≡◌, ℕ, ◌+◌, ◌-◌, ◌<◌, ◌≤◌, true, false, cond, not, List, [], ◌∷◌, length, get_or, drop, Ok, sym, ap, ◌∙◌, zero-le, zero-add, add_assoc, arith}
+use Rattle.std.proofs.lemmas.List.{at_drop_more}
+use Rattle.std.proofs.lemmas.Bool.{not-true, not-false}
+use Rattle.std.proofs.lemmas.Bool.Decides.{nat_tests}
+use Rattle.book.specs.Limits.{most_nodes}
+use Rattle.book.specs.Rules.{no_node, heads_ok}
+use Rattle.book.specs.Whole.{nodes_of}
 use Rattle.book.specs.declared.parts.Node.{Node}
-use Rattle.world.specs.Worlds.{World}
-use Rattle.world.specs.Truth.{nothing, evaluated}
+use Rattle.world.specs.Worlds.{world_of}
 use Rattle.world.specs.Test.{then_rest, tested_from, tested}
+use Rattle.world.specs.Inner.{values_at, Told, GivenWithin}
+use Rattle.world.specs.Trials.{evaluated_in, tested_in}
+use Rattle.world.specs.declared.elements.Trial.{Trial}
 use Rattle.world.specs.declared.parts.Answer.{Answer}
 use Rattle.world.specs.declared.parts.Evaluation.{Evaluation}
-use Rattle.world.specs.declared.parts.Verdict.{Verdict}
-use Rattle.world.specs.declared.parts.Verdict.TheVariants.{Yes, No}
+use Rattle.world.specs.declared.parts.Verdict.TheVariants.{No}
 
-pub record Gone (budget visits : ℕ) (whole rest : Answer) : Type 0 where
+-- an answer after some visits
+abbrev pub later : ℕ → Answer → Answer
+later visits o = record { verdict = o.verdict; visits = visits + o.visits }
+
+-- what the premises from place i on say
+abbrev pub rest_from : Trial → ℕ → Answer
+rest_from t i = tested_from (nodes_of t.book.now) (world_of t.log.now) (i + 1) (drop i (nodes_of t.book.now))
+
+abbrev no_slots : List ℕ
+no_slots = 0 ∷ 0 ∷ 0 ∷ 0 ∷ 0 ∷ 0 ∷ []
+
+pub record Gone (t : Trial) (i budget visits : ℕ) : Type 0 where
   pub within : visits ≤ budget
-  pub same : whole.verdict ≡ rest.verdict
-  pub count : whole.visits ≡ visits + rest.visits
+  pub so_far : tested_in t ≡ later visits (rest_from t i)
 
-pub gone_none : (nodes : List Node) (world : World) (budget : ℕ) → Gone budget 0 (tested nodes world) (tested_from nodes world 1 nodes)
+pub gone_none : (t : Trial) (budget : ℕ) → Gone t 0 budget 0
 unfolding tested
-gone_none nodes world budget = record { within = omega arith; same = refl; count = omega arith }
+gone_none t budget = record { within = zero-le; so_far = simp zero-add }
 
-parts : (o : Answer) (t : Verdict) (v : ℕ) → t ≡ o.verdict → v ≡ o.visits → record { verdict = t; visits = v } ≡ o
-parts o t v h k = λ i. record { verdict = h i; visits = k i }
+rest_least : (n : ℕ) (o : Evaluation) (rest : Answer) → o.visits ≤ (then_rest n o rest).visits
+rest_least n o rest = grind arith
 
-module _ (nodes : List Node) (world : World) (i budget visits : ℕ) (at : Gone budget visits (tested nodes world) (tested_from nodes world (i + 1) (drop i nodes))) where
-  pub gone_ends : length nodes ≤ i → (record { verdict = Yes; visits = visits } ≡ tested nodes world) × ((tested nodes world).visits ≤ budget)
-  gone_ends l =
-      let e : tested_from nodes world (i + 1) (drop i nodes) ≡ record { verdict = Yes; visits = 0 } = at_drop_all (tested_from nodes world (i + 1)) nodes i l in
-      let c : (tested nodes world).visits ≡ visits = at.count ∙ ap (λ (o : Answer). visits + o.visits) e ∙ omega arith in
-      (parts (tested nodes world) Yes visits (sym (at.same ∙ ap (λ (o : Answer). o.verdict) e)) (sym c), omega (arith, c, at.within))
+given_ok : {budget : ℕ} {whole o : Answer} → whole ≡ o → o.visits ≤ budget → GivenWithin budget whole (Ok o)
+given_ok e h = (sym e, rw e h)
 
-  module _ (l : i < length nodes) where
-    next : tested_from nodes world (i + 1) (drop i nodes) ≡ cond (get_or nodes i no_node).premise (then_rest (i + 1) (evaluated nodes world (i + 1) nothing) (tested_from nodes world (i + 1 + 1) (drop (i + 1) nodes))) (tested_from nodes world (i + 1 + 1) (drop (i + 1) nodes))
-    next = at_drop_more (tested_from nodes world (i + 1)) nodes i no_node l
-
-    pub gone_skips : (get_or nodes i no_node).premise ≡ false → Gone budget visits (tested nodes world) (tested_from nodes world (i + 1 + 1) (drop (i + 1) nodes))
-    gone_skips h =
-        let e : tested_from nodes world (i + 1) (drop i nodes) ≡ tested_from nodes world (i + 1 + 1) (drop (i + 1) nodes) = next ∙ simp h in
-        subst (λ o. Gone budget visits (tested nodes world) o) e at
-
-    module _ (marked : (get_or nodes i no_node).premise ≡ true) where
-      met : tested_from nodes world (i + 1) (drop i nodes) ≡ then_rest (i + 1) (evaluated nodes world (i + 1) nothing) (tested_from nodes world (i + 1 + 1) (drop (i + 1) nodes))
-      met = next ∙ simp marked
-
-      rest_least : (t : Bool) (v : ℕ) (o : Answer) → v ≤ (then_rest (i + 1) (record { truth = t; visits = v }) o).visits
-      rest_least true v o = omega arith
-      rest_least false v o = omega arith
-
-      least : visits + (evaluated nodes world (i + 1) nothing).visits ≤ (tested nodes world).visits
-      least =
-          let o = evaluated nodes world (i + 1) nothing in
-          let c : (tested nodes world).visits ≡ visits + (then_rest (i + 1) o (tested_from nodes world (i + 1 + 1) (drop (i + 1) nodes))).visits = at.count ∙ ap (λ (a : Answer). visits + a.visits) met in
-          omega (arith, c, rest_least o.truth o.visits (tested_from nodes world (i + 1 + 1) (drop (i + 1) nodes)))
-
-      pub gone_over : budget - visits < (evaluated nodes world (i + 1) nothing).visits → budget < (tested nodes world).visits
-      gone_over h = omega (arith, least, h)
-
-      module _ (b : Evaluation) (told : b ≡ evaluated nodes world (i + 1) nothing) (fits : (evaluated nodes world (i + 1) nothing).visits ≤ budget - visits) where
-        came : tested_from nodes world (i + 1) (drop i nodes) ≡ then_rest (i + 1) b (tested_from nodes world (i + 1 + 1) (drop (i + 1) nodes))
-        came = met ∙ ap (λ o. then_rest (i + 1) o (tested_from nodes world (i + 1 + 1) (drop (i + 1) nodes))) (sym told)
-
-        fits_count : b.visits ≤ budget - visits
-        fits_count = subst (λ (o : Evaluation). o.visits ≤ budget - visits) (sym told) fits
-
-        pub gone_stops : b.truth ≡ false → (record { verdict = No (i + 1); visits = visits + b.visits } ≡ tested nodes world) × ((tested nodes world).visits ≤ budget)
-        gone_stops h =
-            let e : tested_from nodes world (i + 1) (drop i nodes) ≡ record { verdict = No (i + 1); visits = b.visits } = came ∙ simp h in
-            let c : (tested nodes world).visits ≡ visits + b.visits = at.count ∙ ap (λ (a : Answer). visits + a.visits) e in
-            (parts (tested nodes world) (No (i + 1)) (visits + b.visits) (sym (at.same ∙ ap (λ (a : Answer). a.verdict) e)) (sym c), omega (arith, c, at.within, fits_count))
-
-        pub gone_goes : b.truth ≡ true → Gone budget (visits + b.visits) (tested nodes world) (tested_from nodes world (i + 1 + 1) (drop (i + 1) nodes))
-        gone_goes h =
-            let more = tested_from nodes world (i + 1 + 1) (drop (i + 1) nodes) in
-            let e : tested_from nodes world (i + 1) (drop i nodes) ≡ record { verdict = more.verdict; visits = b.visits + more.visits } = came ∙ simp h in
-            let c : (tested nodes world).visits ≡ visits + (b.visits + more.visits) = at.count ∙ ap (λ (a : Answer). visits + a.visits) e in
-            record { within = omega (arith, at.within, fits_count); same = at.same ∙ ap (λ (a : Answer). a.verdict) e; count = omega (arith, c) }
+pub few_nodes : (t : Trial) {ns : List Node} → ns ≡ nodes_of t.book.now → length ns ≤ most_nodes
+unfolding heads_ok
+few_nodes t same = let h = t.book.now.rules.0 in rw same (grind (arith, nat_tests))
 
 -- ns is the table that the code reads
-module _ (nodes ns : List Node) (same : ns ≡ nodes) (i : ℕ) where
-  pub inside : i < length ns → i < length nodes
-  inside l = subst (λ (xs : List Node). i < length xs) same l
+module _ {t : Trial} {i budget visits : ℕ} (at : Gone t i budget visits) {ns : List Node} (same : ns ≡ nodes_of t.book.now) where
+  -- what the node at place i says
+  abbrev said : Evaluation
+  said = evaluated_in t (i + 1) no_slots
 
-  pub outside : length ns ≤ i → length nodes ≤ i
-  outside l = subst (λ (xs : List Node). length xs ≤ i) same l
+  abbrev tail : Answer
+  tail = rest_from t (i + 1)
 
-  pub mark_at : {b : Bool} → (get_or ns i no_node).premise ≡ b → (get_or nodes i no_node).premise ≡ b
-  mark_at h = ap (λ (xs : List Node). (get_or xs i no_node).premise) (sym same) ∙ h
+  abbrev from_here : List Node → Answer
+  from_here xs = tested_from (nodes_of t.book.now) (world_of t.log.now) (i + 1) xs
+
+  module _ (l : i < length ns) where
+    next : tested_in t ≡ later visits (cond (get_or ns i no_node).premise (then_rest (i + 1) said tail) tail)
+    unfolding values_at
+    next = rw same (at.so_far ∙ ap (later visits) (at_drop_more from_here (nodes_of t.book.now) i no_node (rw same at l)))
+
+    pub gone_skips : (get_or ns i no_node).premise ≡ false → Gone t (i + 1) budget visits
+    gone_skips h = record { within = at.within; so_far = next ∙ simp h }
+
+    module _ (marked : (get_or ns i no_node).premise ≡ true) where
+      met : tested_in t ≡ later visits (then_rest (i + 1) said tail)
+      met = next ∙ simp marked
+
+      pub gone_over : budget - visits < said.visits → budget < (tested_in t).visits
+      gone_over h = rw met (omega (arith, rest_least (i + 1) said tail))
+
+      module _ {b : Evaluation} (told : Told (budget - visits) said (Ok b)) where
+        after : tested_in t ≡ later visits (then_rest (i + 1) b tail)
+        after = met ∙ ap (λ o. later visits (then_rest (i + 1) o tail)) (sym told.0)
+
+        fits : visits + b.visits ≤ budget
+        fits = let e : b.visits ≤ budget - visits = rw told.0 told.1 in omega (arith, at.within)
+
+        pub gone_stops : not b.truth ≡ true → GivenWithin budget (tested_in t) (Ok (record { verdict = No (i + 1); visits = visits + b.visits }))
+        gone_stops h = given_ok (after ∙ simp (not-true b.truth h)) fits
+
+        pub gone_goes : not b.truth ≡ false → Gone t (i + 1) budget (visits + b.visits)
+        gone_goes h = record { within = fits; so_far = after ∙ simp (not-false b.truth h, add_assoc) }

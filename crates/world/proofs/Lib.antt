@@ -1,10 +1,9 @@
 pub mod Arms
-pub mod Calms
 pub mod Gone
 pub mod Meanings
 pub mod Nodes
 pub mod Sizes
 pub mod Slots
-pub mod Sums
+pub mod Values
 pub mod Verdicts
 pub mod Walks

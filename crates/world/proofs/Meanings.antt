@@ -1,8 +1,9 @@
 -- The laws of truth: what each kind of node says.
-use Rattle.std.proofs.Common.{◌≡◌, ℕ, Bool, true, false, eqb, ◌⊎◌, List, [], ◌∷◌, length, ℤ, pos, negsuc, ◌≤ℤ◌, sym, refl, ap, ◌∙◌, inl, inr, ⊎_elim, arith}
+use Rattle.std.proofs.Common.{◌≡◌, ℕ, true, false, ◌⊎◌, List, [], ◌∷◌, length, ℤ, pos, negsuc, ◌≤ℤ◌, sym, refl, ap, ◌∙◌, inl, inr, ⊎_elim, arith}
 use lib.Signed.{le_z}
 use Rattle.std.proofs.lemmas.Int.{ints}
-use Rattle.std.proofs.lemmas.Bool.{eqb-true, eq-eqb, eqb-false, false≢true}
+use Rattle.std.proofs.lemmas.Bool.Decides.{nat_tests}
+use Rattle.std.proofs.lemmas.Bool.{eqb-true, eq-eqb, false≢true}
 use Rattle.book.specs.Lowest.{HoldsTo}
 use Rattle.book.specs.Rules.{depth_of, node_at, node_ok}
 use Rattle.book.specs.declared.parts.Class.{Class}
@@ -21,13 +22,11 @@ zero_says : (z : ℤ) → (is_zero z ≡ true) ⇔ (z ≡ pos 0)
 zero_says (pos n) = (λ h. ap pos (eqb-true n 0 h), λ h. eq-eqb n 0 (omega (arith, ints, h)))
 zero_says (negsuc n) = (λ h. absurd (false≢true h), λ h. absurd (omega (arith, ints, h)))
 
-both_say : (t : Bool) (v : ℕ) (b : Evaluation) → ((chained true (record { truth = t; visits = v }) b).truth ≡ true) ⇔ ((t ≡ true) × (b.truth ≡ true))
-both_say true v b = (λ h. (refl, h), λ h. h.1)
-both_say false v b = (λ h. absurd (false≢true h), λ h. h.0)
+both_say : (a b : Evaluation) → ((chained true a b).truth ≡ true) ⇔ ((a.truth ≡ true) × (b.truth ≡ true))
+both_say a b = (λ h. grind arith, λ h. grind arith)
 
-either_says : (t : Bool) (v : ℕ) (b : Evaluation) → ((chained false (record { truth = t; visits = v }) b).truth ≡ true) ⇔ ((t ≡ true) ⊎ (b.truth ≡ true))
-either_says true v b = (λ h. inl refl, λ h. refl)
-either_says false v b = (λ h. inr h, λ h. ⊎_elim (λ e. absurd (false≢true e)) (λ e. e) h)
+either_says : (a b : Evaluation) → ((chained false a b).truth ≡ true) ⇔ ((a.truth ≡ true) ⊎ (b.truth ≡ true))
+either_says a b = (λ h. grind arith, λ h. grind arith)
 
 -- a quantifier over a class, with f the body
 module _ (class : ℕ) (f : List ℤ → Evaluation) where
@@ -37,51 +36,44 @@ module _ (class : ℕ) (f : List ℤ → Evaluation) where
   abbrev AllOf : World → Type 0
   AllOf w = (e : Element) → In e w → e.class ≡ class → (f e.values).truth ≡ true
 
-  later : (x : Element) (w : World) → SomeOf w → SomeOf (x ∷ w)
-  later x w s = (s.0, inr s.1, s.2, s.3)
+  -- one element more decides, or the rest does
+  some_next : (x : Element) (w : World) → ((tried true class f (x ∷ w)).truth ≡ true) ⇔ (((x.class ≡ class) × ((f x.values).truth ≡ true)) ⊎ ((tried true class f w).truth ≡ true))
+  some_next x w = (λ h. grind (arith, nat_tests), λ h. grind (arith, nat_tests))
 
-  -- one element more, whose class is or is not the quantifier's, and of which the body is or is not true
-  some_next : (x : Element) (w : World) → ((tried true class f w).truth ≡ true → SomeOf w) → (same : Bool) → eqb x.class class ≡ same → (t : Bool) → (f x.values).truth ≡ t → (tried true class f (x ∷ w)).truth ≡ true → SomeOf (x ∷ w)
-  some_next x w rest true p true q h = (x, inl refl, eqb-true x.class class p, q)
-  some_next x w rest true p false q h = later x w (rest (simp (p, q) at h))
-  some_next x w rest false p t q h = later x w (rest (simp p at h))
+  all_next : (x : Element) (w : World) → ((tried false class f (x ∷ w)).truth ≡ true) ⇔ ((x.class ≡ class → (f x.values).truth ≡ true) × ((tried false class f w).truth ≡ true))
+  all_next x w = (λ h. (λ e. grind (arith, nat_tests), grind (arith, nat_tests)), λ h. grind (arith, nat_tests))
 
   some_from : (w : World) → (tried true class f w).truth ≡ true → SomeOf w
   some_from [] h = absurd (false≢true h)
-  some_from (x ∷ w) h = some_next x w (some_from w) (eqb x.class class) refl (f x.values).truth refl h
-
-  -- an element that is met already decides, or is still to come
-  some_found : (x : Element) (w : World) → (SomeOf w → (tried true class f w).truth ≡ true) → (same : Bool) → eqb x.class class ≡ same → (t : Bool) → (f x.values).truth ≡ t → SomeOf (x ∷ w) → (tried true class f (x ∷ w)).truth ≡ true
-  some_found x w rest true p true q s = simp (p, q)
-  some_found x w rest true p false q s =
-      simp (p, q) (⊎_elim (λ (e : x ≡ s.0). absurd (false≢true (sym q ∙ ap (λ (y : Element). (f y.values).truth) e ∙ s.3))) (λ m. rest (s.0, m, s.2, s.3)) s.1)
-  some_found x w rest false p t q s =
-      simp p (⊎_elim (λ (e : x ≡ s.0). absurd (eqb-false x.class class p (ap (λ (y : Element). y.class) e ∙ s.2))) (λ m. rest (s.0, m, s.2, s.3)) s.1)
+  some_from (x ∷ w) h =
+      ⊎_elim
+      (λ here. (x, inl refl, here.0, here.1))
+      (λ rest. let s = some_from w rest in (s.0, inr s.1, s.2, s.3))
+      ((some_next x w).0 h)
 
   some_to : (w : World) → SomeOf w → (tried true class f w).truth ≡ true
   some_to [] s = absurd s.1
-  some_to (x ∷ w) s = some_found x w (some_to w) (eqb x.class class) refl (f x.values).truth refl s
+  some_to (x ∷ w) s =
+      (some_next x w).1 (⊎_elim
+      (λ (e : x ≡ s.0). inl (ap (λ (y : Element). y.class) e ∙ s.2, ap (λ (y : Element). (f y.values).truth) e ∙ s.3))
+      (λ m. inr (some_to w (s.0, m, s.2, s.3)))
+      s.1)
 
   pub some_says : (w : World) → ((tried true class f w).truth ≡ true) ⇔ SomeOf w
   some_says w = (some_from w, some_to w)
 
-  all_next : (x : Element) (w : World) → ((tried false class f w).truth ≡ true → AllOf w) → (same : Bool) → eqb x.class class ≡ same → (t : Bool) → (f x.values).truth ≡ t → (tried false class f (x ∷ w)).truth ≡ true → AllOf (x ∷ w)
-  all_next x w rest true p true q h e m is = ⊎_elim (λ (same : x ≡ e). ap (λ (y : Element). (f y.values).truth) (sym same) ∙ q) (λ k. rest (simp (p, q) at h) e k is) m
-  all_next x w rest true p false q h e m is = absurd (false≢true (simp (p, q) at h))
-  all_next x w rest false p t q h e m is = ⊎_elim (λ (same : x ≡ e). absurd (eqb-false x.class class p (ap (λ (y : Element). y.class) same ∙ is))) (λ k. rest (simp p at h) e k is) m
-
   all_from : (w : World) → (tried false class f w).truth ≡ true → AllOf w
   all_from [] h = λ e m is. absurd m
-  all_from (x ∷ w) h = all_next x w (all_from w) (eqb x.class class) refl (f x.values).truth refl h
-
-  all_found : (x : Element) (w : World) → (AllOf w → (tried false class f w).truth ≡ true) → (same : Bool) → eqb x.class class ≡ same → (t : Bool) → (f x.values).truth ≡ t → AllOf (x ∷ w) → (tried false class f (x ∷ w)).truth ≡ true
-  all_found x w rest true p true q s = simp (p, q) (rest (λ e m is. s e (inr m) is))
-  all_found x w rest true p false q s = absurd (false≢true (sym q ∙ s x (inl refl) (eqb-true x.class class p)))
-  all_found x w rest false p t q s = simp p (rest (λ e m is. s e (inr m) is))
+  all_from (x ∷ w) h =
+      let p = (all_next x w).0 h in
+      λ e m is. ⊎_elim
+      (λ (s : x ≡ e). ap (λ (y : Element). (f y.values).truth) (sym s) ∙ p.0 (ap (λ (y : Element). y.class) s ∙ is))
+      (λ k. all_from w p.1 e k is)
+      m
 
   all_to : (w : World) → AllOf w → (tried false class f w).truth ≡ true
   all_to [] s = refl
-  all_to (x ∷ w) s = all_found x w (all_to w) (eqb x.class class) refl (f x.values).truth refl s
+  all_to (x ∷ w) s = (all_next x w).1 (s x (inl refl), all_to w (λ e m. s e (inr m)))
 
   pub all_say : (w : World) → ((tried false class f w).truth ≡ true) ⇔ AllOf w
   all_say w = (all_from w, all_to w)
@@ -94,8 +86,8 @@ pub truth_laws : (classes : List Class) (nodes : List Node) → HoldsTo (length 
 truth_laws classes nodes ok = record {
   at_least = λ w n env a s. moved (evaluated_is classes nodes ok w n s.low s.high env s.formula) (le_says (worth env a));
   equal = λ w n env a s. moved (evaluated_is classes nodes ok w n s.low s.high env s.formula) (zero_says (worth env a));
-  both = λ w n env l r s. moved (evaluated_is classes nodes ok w n s.low s.high env s.formula) (both_say (evaluated nodes w l env).truth (evaluated nodes w l env).visits (evaluated nodes w r env));
-  either = λ w n env l r s. moved (evaluated_is classes nodes ok w n s.low s.high env s.formula) (either_says (evaluated nodes w l env).truth (evaluated nodes w l env).visits (evaluated nodes w r env));
+  both = λ w n env l r s. moved (evaluated_is classes nodes ok w n s.low s.high env s.formula) (both_say (evaluated nodes w l env) (evaluated nodes w r env));
+  either = λ w n env l r s. moved (evaluated_is classes nodes ok w n s.low s.high env s.formula) (either_says (evaluated nodes w l env) (evaluated nodes w r env));
   exists = λ w n env c b s. moved (evaluated_is classes nodes ok w n s.low s.high env s.formula) (some_says c (body_of nodes w b env (depth_of (node_at nodes n).scope)) w);
   every = λ w n env c b s. moved (evaluated_is classes nodes ok w n s.low s.high env s.formula) (all_say c (body_of nodes w b env (depth_of (node_at nodes n).scope)) w);
 }

@@ -1,11 +1,11 @@
 -- What a node says, by what the nodes that it names say.
-use Rattle.std.proofs.Common.{◌≡◌, ℕ, zero, suc, ◌<◌, ◌≤◌, true, false, ◌&&◌, eqb, ltb, leb, List, [], ◌∷◌, length, get_or, set, ℤ, nat_abs, sym, refl, ap, ◌∙◌, subst, ⊎_elim, zero-le, arith, lit<}
+use Rattle.std.proofs.Common.{◌≡◌, ℕ, zero, suc, ◌<◌, ◌≤◌, true, false, List, length, set, ℤ, refl, ap, ◌∙◌, subst, arith}
 use mathlib.Core.Path.{fun_ext}
-use Rattle.std.proofs.lemmas.Bool.{and_parts, leb-true, ltb-true, eqb-true, cases_lt}
-use Rattle.std.proofs.lemmas.List.{get_or-take, get_or_past, length-take}
-use Rattle.book.specs.Limits.{slot_count, most_terms, largest_coefficient}
+use Rattle.std.proofs.lemmas.Bool.Decides.{nat_tests}
+use Rattle.std.proofs.lemmas.List.Recursion.{and_at}
+use Rattle.book.specs.Limits.{slot_count}
 use Rattle.book.specs.Lowest.{HoldsTo}
-use Rattle.book.specs.Rules.{depth_of, same_scope_lem, widened, is_class, slots_ok, scope_ok, term_ok, terms_ok, terms_of, atom_ok, child_ok, body_ok, formula_ok, node_ok, node_at, no_term}
+use Rattle.book.specs.Rules.{depth_of, term_ok, terms_ok, terms_of, atom_ok, body_ok, formula_ok, node_ok, node_at, no_term}
 use Rattle.book.specs.declared.parts.Atom.{Atom}
 use Rattle.book.specs.declared.parts.Class.{Class}
 use Rattle.book.specs.declared.parts.Term.{Term}
@@ -31,69 +31,38 @@ Sound n d (Or l r) = Before n l × Before n r
 Sound n d (Exists c b) = Before n b × (d < slot_count)
 Sound n d (Every c b) = Before n b × (d < slot_count)
 
-child_before : (nodes : List Node) (n : ℕ) (scope : List ℕ) (k : ℕ) → child_ok nodes n scope k ≡ true → Before n k
-child_before nodes n scope k h =
-    let p = and_parts (leb 1 k) (ltb k n && same_scope_lem (node_at nodes k).scope scope) h in
-    (leb-true 1 k p.0, ltb-true k n (and_parts (ltb k n) (same_scope_lem (node_at nodes k).scope scope) p.1).0)
+-- a scope of six slots, at most
+module _ (classes : List Class) (scope : List ℕ) (six : length scope ≤ slot_count) where
+  term_bounded : (t : Term) → term_ok classes scope t ≡ true → BoundedTerm t
+  term_bounded t h =
+      let d = depth_le scope in
+      record { coefficient = grind (arith, nat_tests); slot = grind (arith, nat_tests) }
 
-body_before : (classes : List Class) (nodes : List Node) (n : ℕ) (scope : List ℕ) (c b : ℕ) → body_ok classes nodes n scope c b ≡ true → Before n b × (depth_of scope < slot_count)
-unfolding body_ok
-body_before classes nodes n scope c b h =
-    let p = and_parts (ltb (depth_of scope) slot_count) (is_class classes c && child_ok nodes n (widened scope c) b) h in
-    let q = and_parts (is_class classes c) (child_ok nodes n (widened scope c) b) p.1 in
-    (child_before nodes n (widened scope c) b q.1, ltb-true (depth_of scope) slot_count p.0)
-
-term_bounded : (classes : List Class) (scope : List ℕ) → length scope ≤ slot_count → (t : Term) → term_ok classes scope t ≡ true → BoundedTerm t
-term_bounded classes scope six t h =
-    let p = and_parts (leb (nat_abs t.coefficient) largest_coefficient) _ h in
-    let q = and_parts (ltb t.slot (depth_of scope)) _ p.1 in
-    record {
-      coefficient = leb-true (nat_abs t.coefficient) largest_coefficient p.0;
-      slot = omega (arith, six, depth_le scope, ltb-true t.slot (depth_of scope) q.0);
-    }
-
-terms_bounded : (classes : List Class) (scope : List ℕ) → length scope ≤ slot_count → (ts : List Term) → terms_ok classes scope ts ≡ true → (i : ℕ) → i < length ts → BoundedTerm (get_or ts i no_term)
-terms_bounded classes scope six [] h i l = absurd (omega arith)
-terms_bounded classes scope six (t ∷ ts) h zero l = term_bounded classes scope six t (and_parts (term_ok classes scope t) (terms_ok classes scope ts) h).0
-terms_bounded classes scope six (t ∷ ts) h (suc i) l = terms_bounded classes scope six ts (and_parts (term_ok classes scope t) (terms_ok classes scope ts) h).1 i (omega arith)
-
-no_term_bounded : BoundedTerm no_term
-no_term_bounded = record { coefficient = zero-le; slot = lit< tt }
-
-atom_bounded : (classes : List Class) (scope : List ℕ) → length scope ≤ slot_count → (a : Atom) → atom_ok classes scope a ≡ true → Bounded a
-unfolding atom_ok
-atom_bounded classes scope six a h =
-    let p = and_parts (leb a.count most_terms) _ h in
-    let q = and_parts (terms_ok classes scope (terms_of a)) _ p.1 in
-    record {
-      few = leb-true a.count most_terms p.0;
-      each = λ i l. ⊎_elim
-          (λ (k : i < length a.terms). subst BoundedTerm (get_or-take a.count a.terms i no_term l) (terms_bounded classes scope six (terms_of a) q.0 i (simp length-take (omega arith))))
-          (λ k. subst BoundedTerm (sym (get_or_past a.terms i no_term k)) no_term_bounded)
-          (cases_lt i (length a.terms));
-    }
+  atom_bounded : (a : Atom) → atom_ok classes scope a ≡ true → Bounded a
+  unfolding atom_ok
+  atom_bounded a h =
+      let p : terms_ok classes scope (terms_of a) ≡ true = grind (arith, nat_tests) in
+      record {
+        few = grind (arith, nat_tests);
+        each = λ i l. term_bounded _ (and_at (terms_ok classes scope) (term_ok classes scope) refl (λ _ _. refl) (terms_of a) i no_term l p);
+      }
 
 -- the rules of node n, as far as its evaluation needs them
 module _ (classes : List Class) (nodes : List Node) (n : ℕ) where
   formula_sound : (scope : List ℕ) → length scope ≤ slot_count → (f : Formula) → formula_ok classes nodes n scope f ≡ true → Sound n (depth_of scope) f
+  unfolding body_ok
   formula_sound scope six (AtLeast a) h = atom_bounded classes scope six a h
   formula_sound scope six (Equal a) h = atom_bounded classes scope six a h
-  formula_sound scope six (And l r) h =
-      let p = and_parts (child_ok nodes n scope l) (child_ok nodes n scope r) h in
-      (child_before nodes n scope l p.0, child_before nodes n scope r p.1)
-  formula_sound scope six (Or l r) h =
-      let p = and_parts (child_ok nodes n scope l) (child_ok nodes n scope r) h in
-      (child_before nodes n scope l p.0, child_before nodes n scope r p.1)
-  formula_sound scope six (Exists c b) h = body_before classes nodes n scope c b h
-  formula_sound scope six (Every c b) h = body_before classes nodes n scope c b h
+  formula_sound scope six (And l r) h = grind (arith, nat_tests)
+  formula_sound scope six (Or l r) h = grind (arith, nat_tests)
+  formula_sound scope six (Exists c b) h = grind (arith, nat_tests)
+  formula_sound scope six (Every c b) h = grind (arith, nat_tests)
 
   pub node_sound : node_ok classes nodes n ≡ true → Sound n (depth_of (node_at nodes n).scope) (node_at nodes n).formula
   unfolding node_ok
   node_sound h =
       let scope = (node_at nodes n).scope in
-      let p = and_parts (scope_ok classes scope) (formula_ok classes nodes n scope (node_at nodes n).formula) h in
-      let q = and_parts (eqb (length scope) slot_count) (slots_ok classes scope) p.0 in
-      formula_sound scope (omega (arith, eqb-true (length scope) slot_count q.0)) (node_at nodes n).formula p.1
+      formula_sound scope (grind (arith, nat_tests)) (node_at nodes n).formula (grind (arith, nat_tests))
 
 -- every node of the table keeps the rules
 module _ (classes : List Class) (nodes : List Node) (ok : HoldsTo (length nodes) (node_ok classes nodes)) where

@@ -16,13 +16,12 @@ length_world log = length-map log element_of
 pub world_at : (log : List Given) (i : ℕ) (d : Given) → i < length log → get_or (world_of log) i no_element ≡ element_of (get_or log i d)
 world_at log i d l = get_or-map element_of log i d no_element l
 
-pub values_in : (log : List Given) (k : ℕ) (d : Given) → (k ≡ 0 → ⊥) → k ≤ length log → values_at (world_of log) k ≡ (get_or log (k - 1) d).values.now
+pub values_in : (log : List Given) (k : ℕ) (e : Given) → 1 ≤ k → k ≤ length log → e ≡ get_or log (k - 1) e → values_at (world_of log) k ≡ e.values.now
 unfolding values_at
-values_in log zero d ne l = absurd (ne refl)
-values_in log (suc j) d ne l =
-    let e : suc j - 1 ≡ j = omega arith in
-    let lt : j < length log = omega arith in
-    ap (λ (x : Element). x.values) (world_at log j d lt) ∙ ap (λ i. (get_or log i d).values.now) (sym e)
+values_in log zero e low high is = absurd (omega arith)
+values_in log (suc j) e low high is =
+    let p : suc j - 1 ≡ j = omega arith in
+    ap (λ (x : Element). x.values) (world_at log j e (omega arith)) ∙ ap (λ (x : Given). x.values.now) (sym (rw p at is))
 
 pub values_past : (log : List Given) (k : ℕ) → length log < k → values_at (world_of log) k ≡ []
 unfolding values_at
@@ -41,15 +40,6 @@ slot_set world slots d i =
 -- what a term reads
 pub slot_reading : (world : World) (slots : List ℕ) (s a : ℕ) → s < length slots → get_or (values_at world (get_or slots s 0)) a (pos 0) ≡ reading (env_of world slots) s a
 slot_reading world slots s a l = ap (λ vs. get_or vs a (pos 0)) (sym (get_or-map (values_at world) slots s 0 [] l))
-
-pub class_at : (log : List Given) (i : ℕ) (d : Given) → i < length log → (get_or (world_of log) i no_element).class ≡ (get_or log i d).class
-class_at log i d l = ap (λ (x : Element). x.class) (world_at log i d l)
-
-pub inside : (log : List Given) (i : ℕ) → i < length log → i < length (world_of log)
-inside log i l = omega (arith, length_world log)
-
-pub outside : (log : List Given) (i : ℕ) → length log ≤ i → length (world_of log) ≤ i
-outside log i l = omega (arith, length_world log)
 
 pub element_next : (log : List Given) (i : ℕ) (d : Given) → i < length log → element_at (world_of log) (i + 1) ≡ element_of (get_or log i d)
 element_next log i d l = let e : i + 1 - 1 ≡ i = omega arith in ap (λ k. get_or (world_of log) k no_element) e ∙ world_at log i d l

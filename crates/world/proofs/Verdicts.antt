@@ -2,15 +2,17 @@
 use Rattle.std.proofs.Common.{◌≡◌, ℕ, zero, suc, ◌+◌, ◌-◌, ◌<◌, Bool, true, false, List, [], ◌∷◌, length, get_or, Ok, Err, Result, sym, refl, ap, ◌∙◌, subst, ⊎_elim, arith}
 use Rattle.std.proofs.lemmas.Bool.{false≢true, cases_order}
 use Rattle.book.specs.Rules.{no_node}
+use Rattle.book.specs.Whole.{classes_of, nodes_of}
 use Rattle.book.specs.declared.parts.Class.{Class}
 use Rattle.book.specs.declared.parts.Node.{Node}
 use Rattle.causes.specs.declared.cause.Cause.{Cause}
 use Rattle.causes.specs.declared.cause.Cause.TheVariants.{BadBook, BadWorld, OverBudget}
-use Rattle.world.specs.Worlds.{World}
+use Rattle.world.specs.Worlds.{World, world_of}
 use Rattle.world.specs.Truth.{nothing, evaluated}
-use Rattle.world.specs.Test.{tested_from, tested, Testable, Answered}
+use Rattle.world.specs.Test.{tested_from, tested, Answered}
 use Rattle.world.specs.Inner.{GivenWithin}
 use Rattle.world.specs.Laws.{True, Premise, FirstFalse, TestLaws}
+use Rattle.world.specs.declared.elements.Trial.{Trial}
 use Rattle.world.specs.declared.parts.Answer.{Answer}
 use Rattle.world.specs.declared.parts.Verdict.{Verdict}
 use Rattle.world.specs.declared.parts.Verdict.TheVariants.{Yes, No}
@@ -110,8 +112,8 @@ test_laws classes nodes = record {
 }
 
 -- the answer of the premises is that of the test
-pub answered_from : (classes : List Class) (nodes : List Node) (w : World) (budget : ℕ) (r : Result Answer Cause) → Testable classes w → GivenWithin budget (tested nodes w) r → Answered classes nodes w budget r
-answered_from classes nodes w budget (Ok a) t g = (t, g.0, g.1)
-answered_from classes nodes w budget (Err (BadBook d)) t g = let z : ◌≡◌ {A = ℕ} 0 1 = cc g.0 in absurd (omega arith)
-answered_from classes nodes w budget (Err (BadWorld d)) t g = let z : ◌≡◌ {A = ℕ} 0 1 = cc g.0 in absurd (omega arith)
-answered_from classes nodes w budget (Err OverBudget) t g = (t, g.1)
+pub answered_from : (t : Trial) (budget : ℕ) (r : Result Answer Cause) → GivenWithin budget (tested (nodes_of t.book.now) (world_of t.log.now)) r → Answered (classes_of t.book.now) (nodes_of t.book.now) (world_of t.log.now) budget r
+answered_from t budget (Ok a) g = (t.testable, g.0, g.1)
+answered_from t budget (Err (BadBook d)) g = cc g.0
+answered_from t budget (Err (BadWorld d)) g = cc g.0
+answered_from t budget (Err OverBudget) g = (t.testable, g.1)

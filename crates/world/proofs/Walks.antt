@@ -1,103 +1,91 @@
 -- How a quantifier's walk goes on: what is left to try tells the whole.
-use Rattle.std.proofs.Common.{◌≡◌, ℕ, ◌+◌, ◌-◌, ◌<◌, ◌≤◌, Bool, true, false, not, List, ◌∷◌, length, get_or, drop, set, ℤ, sym, refl, ap, ◌∙◌, subst, arith}
+use Rattle.std.proofs.Common.{◌≡◌, ℕ, ◌+◌, ◌-◌, ◌<◌, ◌≤◌, Bool, true, false, not, List, ◌∷◌, length, get_or, drop, set, ℤ, Ok, sym, ap, ◌∙◌, add_assoc, arith}
 use mathlib.Core.Bool.{beq}
-use Rattle.std.proofs.lemmas.List.{at_drop_more, at_drop_all}
+use Rattle.std.proofs.lemmas.List.{at_drop_more}
 use Rattle.std.proofs.lemmas.Bool.{eq-eqb, ne_eqb}
+use Rattle.book.specs.Whole.{nodes_of}
 use Rattle.book.specs.declared.parts.Node.{Node}
-use Rattle.world.specs.Worlds.{World, no_element}
+use Rattle.world.specs.Worlds.{World, Element, world_of, no_element}
 use Rattle.world.specs.Truth.{Env, chained, visited, tried, evaluated}
+use Rattle.world.specs.Inner.{Told}
+use Rattle.world.specs.Trials.{env_in, evaluated_in, tried_in}
+use Rattle.world.specs.declared.elements.Trial.{Trial}
 use Rattle.world.specs.declared.parts.Evaluation.{Evaluation}
+use Rattle.world.specs.declared.parts.Quantifier.{Quantifier}
+use Rattle.world.proofs.Slots.{no_given, length_world, world_at, slot_set}
 
 -- what a quantifier's body says of an element's values in a slot
 abbrev pub body_of : List Node → World → ℕ → Env → ℕ → List ℤ → Evaluation
 body_of nodes world body env slot vs = evaluated nodes world body (set env slot vs)
 
--- a chain that stops at its first part, one that goes on, and what it counts at least
-pub chain_stop : (want : Bool) (o p : Evaluation) → o.truth ≡ want → chained (not want) o p ≡ o
-chain_stop true o p h = rw h
-chain_stop false o p h = rw h
+-- an evaluation after some visits
+abbrev pub later : ℕ → Evaluation → Evaluation
+later visits o = record { truth = o.truth; visits = visits + o.visits }
 
-pub chain_go : (want : Bool) (o p : Evaluation) → o.truth ≡ not want → chained (not want) o p ≡ record { truth = p.truth; visits = o.visits + p.visits }
-chain_go true o p h = rw h
-chain_go false o p h = rw h
+-- a try that decides, a try that does not, and what both count at least
+chain_stops : (want : Bool) (o rest : Evaluation) → beq o.truth want ≡ true → chained (not want) (visited o) rest ≡ record { truth = want; visits = 1 + o.visits }
+chain_stops want o rest h = grind arith
 
-chain_least : (g t : Bool) (v : ℕ) (p : Evaluation) → v ≤ (chained g (record { truth = t; visits = v }) p).visits
-chain_least true true v p = omega arith
-chain_least true false v p = omega arith
-chain_least false true v p = omega arith
-chain_least false false v p = omega arith
+chain_goes : (want : Bool) (o rest : Evaluation) → beq o.truth want ≡ false → chained (not want) (visited o) rest ≡ later (1 + o.visits) rest
+chain_goes want o rest h = grind arith
 
-pub record Walked (budget visits : ℕ) (whole rest : Evaluation) : Type 0 where
+chain_least : (want : Bool) (o rest : Evaluation) → 1 + o.visits ≤ (chained want (visited o) rest).visits
+chain_least want o rest = grind arith
+
+told_ok : {budget : ℕ} {whole o : Evaluation} → whole ≡ o → o.visits ≤ budget → Told budget whole (Ok o)
+told_ok e h = (sym e, rw e h)
+
+-- what a quantifier says of the elements from place i on
+abbrev pub rest_from : Trial → Quantifier → List ℕ → ℕ → Evaluation
+rest_from t q slots i = tried q.want q.class (body_of (nodes_of t.book.now) (world_of t.log.now) q.body (env_in t slots) q.slot) (drop i (world_of t.log.now))
+
+pub record Walked (t : Trial) (q : Quantifier) (slots : List ℕ) (i budget visits : ℕ) : Type 0 where
   pub within : visits ≤ budget
-  pub same : whole.truth ≡ rest.truth
-  pub count : whole.visits ≡ visits + rest.visits
+  pub so_far : tried_in t q slots ≡ later visits (rest_from t q slots i)
 
--- an evaluation by its parts
-pub parts : (o : Evaluation) (t : Bool) (v : ℕ) → t ≡ o.truth → v ≡ o.visits → record { truth = t; visits = v } ≡ o
-parts o t v h k = λ i. record { truth = h i; visits = k i }
+module _ {t : Trial} {q : Quantifier} {slots : List ℕ} {i budget visits : ℕ} (at : Walked t q slots i budget visits) where
+  -- what the body says of the element at place i
+  abbrev said : Evaluation
+  said = evaluated_in t q.body (set slots q.slot (i + 1))
 
-module _ (want : Bool) (class : ℕ) (f : List ℤ → Evaluation) (es : World) (i : ℕ) (budget visits : ℕ) (at : Walked budget visits (tried want class f es) (tried want class f (drop i es))) where
-  pub walk_ends : length es ≤ i → (record { truth = not want; visits = visits } ≡ tried want class f es) × ((tried want class f es).visits ≤ budget)
-  walk_ends l =
-      let e : tried want class f (drop i es) ≡ record { truth = not want; visits = 0 } = at_drop_all (tried want class f) es i l in
-      let c : (tried want class f es).visits ≡ visits = at.count ∙ ap (λ (o : Evaluation). visits + o.visits) e ∙ omega arith in
-      (parts (tried want class f es) (not want) visits (sym (at.same ∙ ap (λ (o : Evaluation). o.truth) e)) (sym c), omega (arith, c, at.within))
+  abbrev tail : Evaluation
+  tail = rest_from t q slots (i + 1)
 
-  module _ (l : i < length es) where
-    next : tried want class f (drop i es) ≡ tried want class f (get_or es i no_element ∷ drop (i + 1) es)
-    next = at_drop_more (tried want class f) es i no_element l
+  abbrev from_here : World → Evaluation
+  from_here w = tried q.want q.class (body_of (nodes_of t.book.now) (world_of t.log.now) q.body (env_in t slots) q.slot) w
 
-    pub walk_skips : ((get_or es i no_element).class ≡ class → ⊥) → Walked budget visits (tried want class f es) (tried want class f (drop (i + 1) es))
-    walk_skips ne =
-        let e : tried want class f (drop i es) ≡ tried want class f (drop (i + 1) es) = next ∙ simp (ne_eqb (get_or es i no_element).class class ne) in
-        subst (λ o. Walked budget visits (tried want class f es) o) e at
+  module _ (l : i < length t.log.now) where
+    next : tried_in t q slots ≡ later visits (from_here (get_or (world_of t.log.now) i no_element ∷ drop (i + 1) (world_of t.log.now)))
+    next = at.so_far ∙ ap (later visits) (at_drop_more from_here (world_of t.log.now) i no_element (omega (arith, length_world t.log.now)))
 
-    module _ (is : (get_or es i no_element).class ≡ class) where
-      met : tried want class f (drop i es) ≡ chained (not want) (visited (f (get_or es i no_element).values)) (tried want class f (drop (i + 1) es))
-      met = next ∙ simp (eq-eqb (get_or es i no_element).class class is)
+    class_is : (get_or (world_of t.log.now) i no_element).class ≡ (get_or t.log.now i no_given).class
+    class_is = ap (λ (x : Element). x.class) (world_at t.log.now i no_given l)
 
-      least : visits + (1 + (f (get_or es i no_element).values).visits) ≤ (tried want class f es).visits
-      least =
-          let o = f (get_or es i no_element).values in
-          let c : (tried want class f es).visits ≡ visits + (chained (not want) (visited o) (tried want class f (drop (i + 1) es))).visits = at.count ∙ ap (λ (p : Evaluation). visits + p.visits) met in
-          omega (arith, c, chain_least (not want) o.truth (1 + o.visits) (tried want class f (drop (i + 1) es)))
+    pub walk_skips : ((get_or t.log.now i no_given).class ≡ q.class → ⊥) → Walked t q slots (i + 1) budget visits
+    walk_skips ne = record { within = at.within; so_far = next ∙ simp (ne_eqb _ q.class (λ e. ne (sym class_is ∙ e))) }
 
-      pub walk_spent : visits ≡ budget → budget < (tried want class f es).visits
-      walk_spent e = omega (arith, least, e)
+    module _ (is : (get_or t.log.now i no_given).class ≡ q.class) where
+      met : tried_in t q slots ≡ later visits (chained (not q.want) (visited said) tail)
+      met = rw (slot_set (world_of t.log.now) slots q.slot i) (next ∙ simp (eq-eqb _ q.class (class_is ∙ is)))
 
-      pub walk_over : budget - (visits + 1) < (f (get_or es i no_element).values).visits → budget < (tried want class f es).visits
-      walk_over e = omega (arith, least, e)
+      least : visits + (1 + said.visits) ≤ (tried_in t q slots).visits
+      least = rw met (omega (arith, chain_least (not q.want) said tail))
 
-      module _ (b : Evaluation) (told : b ≡ f (get_or es i no_element).values) (ne : visits ≡ budget → ⊥) (fits : (f (get_or es i no_element).values).visits ≤ budget - (visits + 1)) where
-        count_is : (f (get_or es i no_element).values).visits ≡ b.visits
-        count_is = ap (λ (p : Evaluation). p.visits) (sym told)
+      pub walk_spent : visits ≡ budget → budget < (tried_in t q slots).visits
+      walk_spent e = omega (arith, least)
 
-        pub walk_stops : b.truth ≡ want → (record { truth = want; visits = visits + 1 + b.visits } ≡ tried want class f es) × ((tried want class f es).visits ≤ budget)
-        walk_stops w =
-            let o = f (get_or es i no_element).values in
-            let t : o.truth ≡ want = ap (λ (p : Evaluation). p.truth) (sym told) ∙ w in
-            let e : tried want class f (drop i es) ≡ visited o = met ∙ chain_stop want (visited o) (tried want class f (drop (i + 1) es)) t in
-            let s : (tried want class f es).truth ≡ want = at.same ∙ ap (λ (p : Evaluation). p.truth) e ∙ t in
-            let c : (tried want class f es).visits ≡ visits + (1 + o.visits) = at.count ∙ ap (λ (p : Evaluation). visits + p.visits) e in
-            (parts (tried want class f es) want (visits + 1 + b.visits) (sym s) (omega (arith, c, count_is)), omega (arith, c, at.within, fits, ne))
+      pub walk_over : budget - (visits + 1) < said.visits → budget < (tried_in t q slots).visits
+      walk_over e = omega (arith, least)
 
-        pub walk_goes : b.truth ≡ not want → Walked budget (visits + 1 + b.visits) (tried want class f es) (tried want class f (drop (i + 1) es))
-        walk_goes w =
-            let o = f (get_or es i no_element).values in
-            let rest = tried want class f (drop (i + 1) es) in
-            let t : o.truth ≡ not want = ap (λ (p : Evaluation). p.truth) (sym told) ∙ w in
-            let e : tried want class f (drop i es) ≡ record { truth = rest.truth; visits = (1 + o.visits) + rest.visits } = met ∙ chain_go want (visited o) rest t in
-            let c : (tried want class f es).visits ≡ visits + ((1 + o.visits) + rest.visits) = at.count ∙ ap (λ (p : Evaluation). visits + p.visits) e in
-            record { within = omega (arith, at.within, fits, ne, count_is); same = at.same ∙ ap (λ (p : Evaluation). p.truth) e; count = omega (arith, c, count_is) }
+      module _ {b : Evaluation} (ne : visits ≡ budget → ⊥) (told : Told (budget - (visits + 1)) said (Ok b)) where
+        after : tried_in t q slots ≡ later visits (chained (not q.want) (visited b) tail)
+        after = met ∙ ap (λ o. later visits (chained (not q.want) (visited o) tail)) (sym told.0)
 
-pub beq_same : (a b : Bool) → beq a b ≡ true → a ≡ b
-beq_same true true h = refl
-beq_same true false h = sym h
-beq_same false true h = h
-beq_same false false h = refl
+        fits : visits + 1 + b.visits ≤ budget
+        fits = let e : b.visits ≤ budget - (visits + 1) = rw told.0 told.1 in omega (arith, at.within)
 
-pub beq_other : (a b : Bool) → beq a b ≡ false → a ≡ not b
-beq_other true true h = h
-beq_other true false h = refl
-beq_other false true h = refl
-beq_other false false h = sym h
+        pub walk_stops : beq b.truth q.want ≡ true → Told budget (tried_in t q slots) (Ok (record { truth = q.want; visits = visits + 1 + b.visits }))
+        walk_stops h = told_ok (after ∙ ap (later visits) (chain_stops q.want b tail h) ∙ simp add_assoc) fits
+
+        pub walk_goes : beq b.truth q.want ≡ false → Walked t q slots (i + 1) budget (visits + 1 + b.visits)
+        walk_goes h = record { within = fits; so_far = after ∙ ap (later visits) (chain_goes q.want b tail h) ∙ simp add_assoc }

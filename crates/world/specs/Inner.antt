@@ -1,14 +1,13 @@
 -- What the private functions of the test ask and promise.
-use Rattle.std.specs.Prelude.{◌≡◌, ℕ, zero, suc, ◌<◌, ◌≤◌, List, [], map, length, get_or, ℤ, pos, Ok, Err, Result, slice_index_or, unsigned_abs}
+use Rattle.std.specs.Prelude.{◌≡◌, ℕ, zero, suc, ◌<◌, ◌≤◌, List, [], map, length, get_or, ℤ, Ok, Err, Result, slice_index_or, unsigned_abs}
 use Rattle.causes.specs.declared.cause.Cause.{Cause}
 use Rattle.causes.specs.declared.cause.Cause.TheVariants.{BadWorld, OverBudget}
 use Rattle.book.specs.Limits.{most_terms, slot_count, largest_coefficient}
-use Rattle.book.specs.Rules.{no_term}
+use Rattle.book.specs.Rules.{no_term, terms_of}
 use Rattle.book.specs.declared.parts.Atom.{Atom}
 use Rattle.book.specs.declared.parts.Class.{Class}
-use Rattle.book.specs.declared.parts.Node.{Node}
 use Rattle.book.specs.declared.parts.Term.{Term}
-use Rattle.world.specs.Worlds.{World, no_element, largest_value, most_elements}
+use Rattle.world.specs.Worlds.{World, no_element}
 use Rattle.world.specs.Truth.{Env}
 use Rattle.world.specs.Test.{Unfit}
 use Rattle.world.specs.declared.parts.Answer.{Answer}
@@ -22,24 +21,13 @@ values_at world (suc k) = (get_or world k no_element).values
 abbrev pub env_of : World → List ℕ → Env
 env_of world slots = map (values_at world) slots
 
--- each value is in range
-abbrev pub Calm : World → Type 0
-Calm world = (k a : ℕ) → unsigned_abs (slice_index_or (values_at world k) a (pos 0)) ≤ largest_value
-
 pub record BoundedTerm (t : Term) : Type 0 where
   pub coefficient : unsigned_abs t.coefficient ≤ largest_coefficient
   pub slot : t.slot < slot_count
 
 pub record Bounded (a : Atom) : Type 0 where
   pub few : a.count ≤ most_terms
-  pub each : (i : ℕ) → i < a.count → BoundedTerm (slice_index_or a.terms i no_term)
-
--- node n is there to be evaluated
-pub record Ready (nodes : List Node) (world : World) (n : ℕ) : Type 0 where
-  pub low : 1 ≤ n
-  pub high : n ≤ length nodes
-  pub few : length world ≤ most_elements
-  pub calm : Calm world
+  pub each : (i : ℕ) → i < length (terms_of a) → BoundedTerm (slice_index_or (terms_of a) i no_term)
 
 -- what is found, with so many visits, is told where the budget suffices, and refused where it does not
 abbrev pub Within : {X : Type 0} → (X → ℕ) → ℕ → X → Result X Cause → Type 0

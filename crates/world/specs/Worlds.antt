@@ -1,5 +1,6 @@
 -- Worlds: finite lists of elements, whose numbers have no bound.
-use Rattle.std.specs.Prelude.{ℕ, ◌-◌, Bool, true, ◌&&◌, List, [], ◌∷◌, map, length, ℤ, ◌==◌, nat_le, slice_index_or, unsigned_abs}
+use Rattle.std.specs.Prelude.{ℕ, ◌-◌, Bool, ◌&&◌, List, [], map, length, ℤ, ◌==◌, nat_le, slice_index_or, unsigned_abs}
+use Rattle.std.specs.List.{list_all}
 use Rattle.book.specs.Rules.{is_class, attributes_of}
 use Rattle.book.specs.declared.parts.Class.{Class}
 use Rattle.world.specs.declared.parts.Element.{Element as Given}
@@ -35,8 +36,7 @@ abbrev pub largest_value : ℕ
 largest_value = 2147483647
 
 abbrev pub values_ok : List ℤ → Bool
-values_ok [] = true
-values_ok (v ∷ vs) = nat_le (unsigned_abs v) largest_value && values_ok vs
+values_ok vs = list_all (λ v. nat_le (unsigned_abs v) largest_value) vs
 
 -- a known class, as many values as it has attributes, each in range
 unfoldable pub element_ok : List Class → Element → Bool

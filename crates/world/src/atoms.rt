@@ -1,47 +1,41 @@
 // What an atom is worth: an exact sum.
-ghost use Rattle.std.specs.Prelude.{◌≡◌, ℕ, ◌+◌, ◌*◌, ◌^◌, ◌<◌, ◌≤◌, length, ℤ, pos, slice_index_or, unsigned_abs};
+ghost use Rattle.std.specs.Prelude.{◌≡◌, ◌*◌, ◌≤◌, slice_get, unsigned_abs};
 ghost use Rattle.book.specs.Limits.{largest_coefficient};
 ghost use Rattle.world.specs.Worlds.{world_of, largest_value};
-ghost use Rattle.world.specs.Truth.{reading, product, worth as meaning};
-ghost use Rattle.world.specs.Inner.{values_at, env_of, Calm, BoundedTerm, Bounded};
+ghost use Rattle.world.specs.Truth.{product, worth as meaning};
+ghost use Rattle.world.specs.Inner.{values_at, BoundedTerm, Bounded};
+ghost use Rattle.world.specs.Trials.{env_in};
 
-use crate::parts::Element;
+use crate::elements::Trial;
 use book::{Atom, Term};
 
-// An attribute of the element with this number, or 0 where there is none.
-fn value(log: &[Element], number: u32, attribute: u32) -> i64
-    ensures { result ≡ slice_index_or (values_at (world_of log.now) number) attribute (pos 0) }
-{
-    let k = number as usize;
-    if k == 0 || k > log.len() {
-        return 0;
+impl Trial<'_> {
+    // An attribute of the element with this number, where there is one.
+    fn value(&self, number: u32, attribute: u32) -> Option<i64>
+        ensures { result ≡ slice_get (values_at (world_of self.now.log.now) number) attribute }
+    {
+        let e = self.log.get((number as usize).checked_sub(1)?)?;
+        e.values.get(attribute as usize).copied()
     }
-    let a = attribute as usize;
-    if a < log[k - 1].values.len() {
-        log[k - 1].values[a]
-    } else {
-        0
-    }
-}
 
-fn part(t: &Term, log: &[Element], slots: &[u32; 6]) -> i64
-    requires term { BoundedTerm t.now }
-    requires calm { Calm (world_of log.now) }
-    ensures value { result ≡ product (env_of (world_of log.now) slots.now) t.now }
-    ensures size { unsigned_abs result ≤ largest_coefficient * largest_value }
-{
-    let x = value(log, slots[t.slot as usize], t.attribute);
-    i64::from(t.coefficient) * x
-}
-
-pub(crate) fn worth(a: &Atom, log: &[Element], slots: &[u32; 6]) -> i64
-    requires atom { Bounded a.now }
-    requires calm { Calm (world_of log.now) }
-    ensures { result ≡ meaning (env_of (world_of log.now) slots.now) a.now }
-{
-    let mut sum = i64::from(a.constant);
-    for i in 0..a.count {
-        sum += part(&a.terms[i], log, slots);
+    fn part(&self, t: &Term, slots: &[u32; 6]) -> i64
+        requires { BoundedTerm t.now }
+        ensures value { result ≡ product (env_in self.now slots.now) t.now }
+        ensures size { unsigned_abs result ≤ largest_coefficient * largest_value }
+    {
+        let number = slots[t.slot as usize];
+        let x = self.value(number, t.attribute).unwrap_or(0);
+        i64::from(t.coefficient) * x
     }
-    sum
+
+    pub(crate) fn worth(&self, a: &Atom, slots: &[u32; 6]) -> i64
+        requires { Bounded a.now }
+        ensures { result ≡ meaning (env_in self.now slots.now) a.now }
+    {
+        let mut sum = i64::from(a.constant);
+        for t in &a.terms[..a.count] {
+            sum += self.part(t, slots);
+        }
+        sum
+    }
 }

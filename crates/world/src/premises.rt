@@ -1,37 +1,33 @@
 // The premises of a book in a world.
-ghost use Rattle.std.specs.Prelude.{◌≡◌};
-ghost use Rattle.book.specs.Whole.{classes_of, nodes_of};
-ghost use Rattle.world.specs.Worlds.{world_of};
-ghost use Rattle.world.specs.Test.{tested, Testable};
 ghost use Rattle.world.specs.Inner.{GivenWithin};
+ghost use Rattle.world.specs.Trials.{tested_in};
 
-use crate::evaluate::evaluate;
-use crate::parts::{Answer, Element, Verdict};
-use book::Book;
+use crate::elements::Trial;
+use crate::parts::{Answer, Verdict};
 use causes::Cause;
 
-// By rising number, up to the first false one.
-pub(crate) fn try_premises(book: &Book, log: &[Element], budget: u32) -> Result<Answer, Cause>
-    requires { Testable (classes_of book.now) (world_of log.now) }
-    ensures { GivenWithin budget (tested (nodes_of book.now) (world_of log.now)) result }
-{
-    let nodes = book.nodes();
-    let mut visits: u32 = 0;
-    for i in 0..nodes.len() {
-        if nodes[i].premise {
-            let n = i as u32 + 1;
-            let seen = evaluate(book, log, n, [0; 6], budget - visits)?;
-            visits += seen.visits;
-            if !seen.truth {
-                return Ok(Answer {
-                    verdict: Verdict::No { premise: n },
-                    visits,
-                });
+impl Trial<'_> {
+    // By rising number, up to the first false one.
+    pub(crate) fn try_premises(&self, budget: u32) -> Result<Answer, Cause>
+        ensures { GivenWithin budget (tested_in self.now) result }
+    {
+        let mut visits: u32 = 0;
+        for (i, node) in self.book.nodes().iter().enumerate() {
+            if node.premise {
+                let n = i as u32 + 1;
+                let seen = self.evaluate(n, [0; 6], budget - visits)?;
+                visits += seen.visits;
+                if !seen.truth {
+                    return Ok(Answer {
+                        verdict: Verdict::No { premise: n },
+                        visits,
+                    });
+                }
             }
         }
+        Ok(Answer {
+            verdict: Verdict::Yes,
+            visits,
+        })
     }
-    Ok(Answer {
-        verdict: Verdict::Yes,
-        visits,
-    })
 }

@@ -5,9 +5,8 @@ ghost use Rattle.world.specs.Worlds.{world_of};
 ghost use Rattle.world.specs.Test.{Answered};
 ghost use Rattle.world.specs.Laws.{TruthLaws, TestLaws};
 
-use crate::elements::check;
+use crate::elements::Trial;
 use crate::parts::{Answer, Element};
-use crate::premises::try_premises;
 use book::Book;
 use causes::Cause;
 
@@ -17,6 +16,5 @@ pub fn world_test(book: &Book, log: &[Element], budget: u32) -> Result<Answer, C
     ensures truth { TruthLaws (nodes_of book.now) }
     ensures verdict { TestLaws (classes_of book.now) (nodes_of book.now) }
 {
-    check(book, log)?;
-    try_premises(book, log, budget)
+    Trial::new(book, log)?.try_premises(budget)
 }

@@ -5,6 +5,7 @@ use crate::shared::*;
 use book::{Atom, Book, Formula};
 use std::alloc::Global;
 use std::test::Fail;
+use world::Verdict::{No, Yes};
 
 const BOTH: [u32; 6] = [1, 2, 0, 0, 0, 0];
 
@@ -23,64 +24,114 @@ pub fn example(heap: Global) -> Result<Book, Fail> {
 }
 
 const SMALL_LOGS_ROWS: &[Row] = &[
-    ("no element", &[], 6, 0),
-    ("an opening", &[(1, 5)], 3, 1),
-    ("a grant", &[(2, 5)], 6, 0),
-    ("three grants", &[(2, 5), (2, 6), (2, 5)], 6, 0),
-    ("both at one time", &[(1, 5), (2, 5)], 6, 4),
-    ("the grant listed first", &[(2, 5), (1, 5)], 6, 4),
-    ("the grant a step before", &[(1, 5), (2, 4)], 6, 4),
-    ("the grant a step after", &[(1, 5), (2, 6)], 3, 2),
+    ("no element", &[], No { premise: 6 }, 0),
+    ("an opening", &[(1, 5)], No { premise: 3 }, 1),
+    ("a grant", &[(2, 5)], No { premise: 6 }, 0),
+    (
+        "three grants",
+        &[(2, 5), (2, 6), (2, 5)],
+        No { premise: 6 },
+        0,
+    ),
+    ("both at one time", &[(1, 5), (2, 5)], No { premise: 6 }, 4),
+    (
+        "the grant listed first",
+        &[(2, 5), (1, 5)],
+        No { premise: 6 },
+        4,
+    ),
+    (
+        "the grant a step before",
+        &[(1, 5), (2, 4)],
+        No { premise: 6 },
+        4,
+    ),
+    (
+        "the grant a step after",
+        &[(1, 5), (2, 6)],
+        No { premise: 3 },
+        2,
+    ),
 ];
 
 #[test]
 fn small_logs(rt: HostRuntime) -> Result<(), Fail> {
-    each_log(&rt, "", rt.alloc(), &example(rt.alloc())?, SMALL_LOGS_ROWS)
+    each_log(&rt, "", &example(rt.alloc())?, SMALL_LOGS_ROWS)
 }
 
 const ORDERS_ROWS: &[Row] = &[
-    ("the early grant first", &[(1, 5), (2, 3), (2, 7)], 6, 4),
-    ("the late grant first", &[(1, 5), (2, 7), (2, 3)], 6, 6),
-    ("the early opening first", &[(1, 1), (1, 9), (2, 5)], 3, 2),
-    ("the late opening first", &[(1, 9), (1, 1), (2, 5)], 3, 4),
-    ("both openings late", &[(1, 9), (1, 8), (2, 5)], 6, 8),
+    (
+        "the early grant first",
+        &[(1, 5), (2, 3), (2, 7)],
+        No { premise: 6 },
+        4,
+    ),
+    (
+        "the late grant first",
+        &[(1, 5), (2, 7), (2, 3)],
+        No { premise: 6 },
+        6,
+    ),
+    (
+        "the early opening first",
+        &[(1, 1), (1, 9), (2, 5)],
+        No { premise: 3 },
+        2,
+    ),
+    (
+        "the late opening first",
+        &[(1, 9), (1, 1), (2, 5)],
+        No { premise: 3 },
+        4,
+    ),
+    (
+        "both openings late",
+        &[(1, 9), (1, 8), (2, 5)],
+        No { premise: 6 },
+        8,
+    ),
 ];
 
 // Two openings, or two grants, in either order: the order of the list decides how many are visited.
 #[test]
 fn orders(rt: HostRuntime) -> Result<(), Fail> {
-    each_log(&rt, "", rt.alloc(), &example(rt.alloc())?, ORDERS_ROWS)
+    each_log(&rt, "", &example(rt.alloc())?, ORDERS_ROWS)
 }
 
 const TWO_OF_EACH_ROWS: &[Row] = &[
     (
         "the early grant first",
         &[(2, 5), (1, 9), (1, 8), (2, 9)],
-        6,
+        No { premise: 6 },
         8,
     ),
     (
         "the late grant first",
         &[(2, 9), (1, 9), (1, 8), (2, 5)],
-        6,
+        No { premise: 6 },
         10,
     ),
-    ("the grants last", &[(1, 9), (1, 8), (2, 9), (2, 5)], 6, 10),
+    (
+        "the grants last",
+        &[(1, 9), (1, 8), (2, 9), (2, 5)],
+        No { premise: 6 },
+        10,
+    ),
     (
         "the openings last",
         &[(2, 9), (2, 5), (1, 9), (1, 8)],
-        6,
+        No { premise: 6 },
         10,
     ),
     (
         "the openings exchanged",
         &[(1, 8), (1, 9), (2, 9), (2, 5)],
-        6,
+        No { premise: 6 },
         10,
     ),
 ];
 
 #[test]
 fn two_of_each(rt: HostRuntime) -> Result<(), Fail> {
-    each_log(&rt, "", rt.alloc(), &example(rt.alloc())?, TWO_OF_EACH_ROWS)
+    each_log(&rt, "", &example(rt.alloc())?, TWO_OF_EACH_ROWS)
 }

@@ -3,6 +3,7 @@ use crate::shared::*;
 use book::{Atom, Book, Formula};
 use std::alloc::Global;
 use std::test::Fail;
+use world::Verdict::{No, Yes};
 
 // The formula is node 5. Its children can be node 2, of class 1, and node 4, of class 2.
 fn joined(heap: Global, formula: Formula) -> Result<Book, Fail> {
@@ -11,41 +12,61 @@ fn joined(heap: Global, formula: Formula) -> Result<Book, Fail> {
 }
 
 const CONJUNCTIONS_ROWS: &[Row] = &[
-    ("both true", &[(1, 1), (2, 1), (2, 1)], 0, 3),
-    ("the left one true", &[(1, 1), (2, -1), (2, -1)], 5, 2),
-    ("the right one true", &[(1, -1), (2, 1), (2, 1)], 5, 1),
-    ("both false", &[(1, -1), (2, -1), (2, -1)], 5, 1),
-    ("no element", &[], 0, 0),
+    ("both true", &[(1, 1), (2, 1), (2, 1)], Yes, 3),
+    (
+        "the left one true",
+        &[(1, 1), (2, -1), (2, -1)],
+        No { premise: 5 },
+        2,
+    ),
+    (
+        "the right one true",
+        &[(1, -1), (2, 1), (2, 1)],
+        No { premise: 5 },
+        1,
+    ),
+    (
+        "both false",
+        &[(1, -1), (2, -1), (2, -1)],
+        No { premise: 5 },
+        1,
+    ),
+    ("no element", &[], Yes, 0),
 ];
 
 #[test]
 fn conjunctions(rt: HostRuntime) -> Result<(), Fail> {
     let book = joined(rt.alloc(), Formula::And { left: 2, right: 4 })?;
-    each_log(&rt, "", rt.alloc(), &book, CONJUNCTIONS_ROWS)
+    each_log(&rt, "", &book, CONJUNCTIONS_ROWS)
 }
 
 const DISJUNCTIONS_ROWS: &[Row] = &[
-    ("both true", &[(1, 1), (2, 1), (2, 1)], 0, 1),
-    ("the left one true", &[(1, 1), (2, -1), (2, -1)], 0, 1),
-    ("the right one true", &[(1, -1), (2, 1), (2, 1)], 0, 3),
-    ("both false", &[(1, -1), (2, -1), (2, -1)], 5, 2),
-    ("no element", &[], 0, 0),
+    ("both true", &[(1, 1), (2, 1), (2, 1)], Yes, 1),
+    ("the left one true", &[(1, 1), (2, -1), (2, -1)], Yes, 1),
+    ("the right one true", &[(1, -1), (2, 1), (2, 1)], Yes, 3),
+    (
+        "both false",
+        &[(1, -1), (2, -1), (2, -1)],
+        No { premise: 5 },
+        2,
+    ),
+    ("no element", &[], Yes, 0),
 ];
 
 #[test]
 fn disjunctions(rt: HostRuntime) -> Result<(), Fail> {
     let book = joined(rt.alloc(), Formula::Or { left: 2, right: 4 })?;
-    each_log(&rt, "", rt.alloc(), &book, DISJUNCTIONS_ROWS)
+    each_log(&rt, "", &book, DISJUNCTIONS_ROWS)
 }
 
 const ONE_CHILD_TWICE_AND_ROWS: &[Row] = &[
-    ("true", &[(2, 1), (2, 1)], 0, 4),
-    ("false", &[(2, 1), (2, -1)], 5, 2),
+    ("true", &[(2, 1), (2, 1)], Yes, 4),
+    ("false", &[(2, 1), (2, -1)], No { premise: 5 }, 2),
 ];
 
 const ONE_CHILD_TWICE_OR_ROWS: &[Row] = &[
-    ("true", &[(2, 1), (2, 1)], 0, 2),
-    ("false", &[(2, 1), (2, -1)], 5, 4),
+    ("true", &[(2, 1), (2, 1)], Yes, 2),
+    ("false", &[(2, 1), (2, -1)], No { premise: 5 }, 4),
 ];
 
 // A child that is named twice is read twice.
@@ -53,20 +74,8 @@ const ONE_CHILD_TWICE_OR_ROWS: &[Row] = &[
 fn one_child_twice(rt: HostRuntime) -> Result<(), Fail> {
     let conjunction = joined(rt.alloc(), Formula::And { left: 4, right: 4 })?;
     let disjunction = joined(rt.alloc(), Formula::Or { left: 4, right: 4 })?;
-    each_log(
-        &rt,
-        "and, ",
-        rt.alloc(),
-        &conjunction,
-        ONE_CHILD_TWICE_AND_ROWS,
-    )?;
-    each_log(
-        &rt,
-        "or, ",
-        rt.alloc(),
-        &disjunction,
-        ONE_CHILD_TWICE_OR_ROWS,
-    )
+    each_log(&rt, "and, ", &conjunction, ONE_CHILD_TWICE_AND_ROWS)?;
+    each_log(&rt, "or, ", &disjunction, ONE_CHILD_TWICE_OR_ROWS)
 }
 
 // As many nodes as a book can have, each the left child of the next, and none of the right children is read.
@@ -82,5 +91,10 @@ fn deep_chain(rt: HostRuntime) -> Result<(), Fail> {
         right: 1,
     }))?;
     let book = made(rt.alloc(), nodes.as_slice())?;
-    each_log(&rt, "", rt.alloc(), &book, &[("no element", &[], 4096, 0)])
+    each_log(
+        &rt,
+        "",
+        &book,
+        &[("no element", &[], No { premise: 4096 }, 0)],
+    )
 }

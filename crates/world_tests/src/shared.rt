@@ -96,8 +96,8 @@ pub fn no(premise: u32, visits: u32) -> Answer {
     }
 }
 
-// A name, a log in short, and what the test answers: the premise that a no names, or 0 for a yes, and the visits.
-pub type Row = (&'static str, &'static [(u32, i64)], u32, u32);
+// A name, a log in short, and what the test answers: its verdict and the visits.
+pub type Row = (&'static str, &'static [(u32, i64)], Verdict, u32);
 
 // Answered with as many visits as it takes and with the largest budget, and refused with one visit less.
 pub fn exactly(
@@ -130,18 +130,16 @@ pub fn exactly(
 }
 
 pub fn each_log(
-    rt: &impl Abort,
+    rt: &(impl Abort + AllocGlobal),
     of: &str,
-    heap: Global,
     book: &Book,
     table: &[Row],
 ) -> Result<(), Fail> {
-    for (name, short, premise, visits) in table {
-        let log = elements(heap, short)?;
-        let expected = if *premise == 0 {
-            yes(*visits)
-        } else {
-            no(*premise, *visits)
+    for (name, short, verdict, visits) in table {
+        let log = elements(rt.alloc(), short)?;
+        let expected = Answer {
+            verdict: *verdict,
+            visits: *visits,
         };
         exactly(
             rt,
