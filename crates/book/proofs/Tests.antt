@@ -1,6 +1,5 @@
--- Tests that go along a list, one element a turn.
-use Rattle.std.proofs.Common.{◌≡◌, ℕ, zero, suc, ◌+◌, ◌<◌, ◌≤◌, Bool, true, false, ◌&&◌, List, [], ◌∷◌, length, get_or, take, drop, not, ◌==◌, refl, Ok, Err, Result, sym, ap, ◌∙◌, subst, ⊎_elim, arith, MatchResult}
-use Rattle.std.proofs.lemmas.List.{at_drop_more, at_drop_all}
+-- Scopes by their used slots, and tests that hold at each number.
+use Rattle.std.proofs.Common.{◌≡◌, ℕ, zero, suc, ◌+◌, ◌<◌, ◌≤◌, Bool, true, false, ◌&&◌, List, [], ◌∷◌, length, take, drop, not, ◌==◌, refl, sym, ap, ◌∙◌, subst, ⊎_elim, arith}
 use Rattle.std.proofs.lemmas.List.Sums.{prefix_len-le-length}
 use Rattle.std.proofs.Math.Bool.{and_assoc}
 use Rattle.std.proofs.Math.Numerals.{one-add}
@@ -11,24 +10,8 @@ use Rattle.book.specs.Rules.{depth_of, is_empty, slots_ok, is_class, heads_ok, n
 use Rattle.causes.specs.declared.cause.Cause.{Cause}
 use Rattle.book.specs.Limits.{most_nodes}
 use Rattle.book.specs.Lowest.{HoldsTo}
-use Rattle.book.specs.Whole.{classes_of, nodes_of, Making}
-use Rattle.book.specs.declared.made.Book.{Book}
 use Rattle.book.specs.declared.parts.Class.{Class}
 use Rattle.book.specs.declared.parts.Node.{Node}
-
--- F holds of a list where p holds of each element: what is left from i on tells the whole
-module _ {X : Type 0} (p : X → Bool) (F : List X → Bool) (none : F [] ≡ true) (some : (x : X) (xs : List X) → F (x ∷ xs) ≡ (p x && F xs)) (d : X) (xs : List X) (i : ℕ) (at : F xs ≡ F (drop i xs)) where
-  pub all_end : length xs ≤ i → F xs ≡ true
-  all_end l = at ∙ at_drop_all F xs i l ∙ none
-
-  next : i < length xs → F xs ≡ (p (get_or xs i d) && F (drop (i + 1) xs))
-  next l = at ∙ at_drop_more F xs i d l ∙ some (get_or xs i d) (drop (i + 1) xs)
-
-  pub all_more : i < length xs → p (get_or xs i d) ≡ true → F xs ≡ F (drop (i + 1) xs)
-  all_more l h = next l ∙ ap (λ b. b && F (drop (i + 1) xs)) h
-
-  pub all_fails : i < length xs → p (get_or xs i d) ≡ false → F xs ≡ false
-  all_fails l h = next l ∙ ap (λ b. b && F (drop (i + 1) xs)) h
 
 pub depth_le : (scope : List ℕ) → depth_of scope ≤ length scope
 unfolding depth_of
@@ -74,12 +57,3 @@ never_both classes nodes e ok refused =
     (λ h. both_ways (heads_ok classes nodes) h.0 ok.0)
     (λ h. both_ways (node_ok classes nodes refused.0) h.1.fails (ok.1 refused.0 h.1.low h.1.high))
     refused.2
-
--- what making returns, at equal classes and nodes
-pub making_at : (cs classes : List Class) (ns nodes : List Node) → cs ≡ classes → ns ≡ nodes → (r : Result Book Cause) →
-    MatchResult r (λ b. (classes_of b ≡ cs) × (nodes_of b ≡ ns) × WellFormed cs ns) (λ e. Refused cs ns e) → Making classes nodes r
-making_at cs classes ns nodes p q r h = subst (λ xs. Making xs nodes r) p (subst (λ ys. Making cs ys r) q (from r h))
-  where
-    from : (r : Result Book Cause) → MatchResult r (λ b. (classes_of b ≡ cs) × (nodes_of b ≡ ns) × WellFormed cs ns) (λ e. Refused cs ns e) → Making cs ns r
-    from (Ok b) h = h
-    from (Err e) h = h
