@@ -3,6 +3,7 @@
 
 mod atoms;
 mod made;
+mod making;
 mod parts;
 mod rules;
 
