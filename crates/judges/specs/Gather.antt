@@ -1,5 +1,6 @@
 -- Inside the library: the totals so far, in a table with one entry for each unknown.
 use Rattle.std.specs.Prelude.{ℕ, suc, ◌≤◌, Bool, true, cond, ◌&&◌, List, [], ◌∷◌, take, ℤ, pos, ◌+ℤ◌, ◌*ℤ◌, slice_index_or, unsigned_abs}
+use Rattle.std.specs.List.{list_all}
 use Rattle.rows.specs.Meaning.{terms_of}
 use Rattle.rows.specs.declared.row.Unknown.{Unknown}
 use Rattle.rows.specs.declared.row.Term.{Term}
@@ -45,5 +46,4 @@ gathered es (r ∷ rs) [] = es
 gathered es (r ∷ rs) (n ∷ ns) = gathered (put_terms es n (terms_of r)) rs ns
 
 abbrev pub each_total : (ℤ → Bool) → List Total → Bool
-each_total p [] = true
-each_total p (e ∷ es) = p e.total && each_total p es
+each_total p es = list_all (λ e. p e.total) es

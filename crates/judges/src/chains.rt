@@ -6,7 +6,7 @@ ghost use Rattle.judges.specs.Chain.{chain_rows, unknown_with_lem, is_difference
 ghost use Rattle.judges.specs.ChainLaw.{chain_sound, chain_bounded};
 
 use crate::meaning::Judge;
-use crate::unknowns::{LARGEST_CONFLICT, last_cause, same};
+use crate::unknowns::{LARGEST_CONFLICT, last_cause};
 use rows::{JudgeCause, Relation, Row, Unknown};
 
 const MOST_ROWS: usize = 64;
@@ -58,27 +58,24 @@ fn go_round(rows: &[Row], voucher: &[i32]) -> Result<(), JudgeCause>
     last_cause(is_ring(rows), sum_constants(rows) <= LARGEST_CONFLICT)
 }
 
-// The unknown of the first term with this coefficient.
+// The unknown of the first term with this coefficient; the default where there is none.
 fn unknown_with(row: &Row, coefficient: i32) -> Unknown
     ensures { result ≡ unknown_with_lem coefficient (terms_of row.now) }
 {
-    for term in row.terms() {
-        if term.coefficient == coefficient {
-            return term.unknown;
-        }
-    }
-    Unknown {
-        object: 0,
-        attribute: 0,
-    }
+    row.terms()
+        .iter()
+        .find(|term| term.coefficient == coefficient)
+        .map(|term| term.unknown)
+        .unwrap_or_default()
 }
 
 fn is_link(row: &Row) -> bool
     ensures { result ≡ is_difference row.now }
 {
-    match (row.relation, row.terms()) {
-        (Relation::AtLeast, [a, b]) => {
-            a.coefficient == 1 && b.coefficient == -1 || a.coefficient == -1 && b.coefficient == 1
+    match row.terms() {
+        [a, b] => {
+            row.relation == Relation::AtLeast
+                && matches!((a.coefficient, b.coefficient), (1, -1) | (-1, 1))
         }
         _ => false,
     }
@@ -87,25 +84,16 @@ fn is_link(row: &Row) -> bool
 fn are_links(rows: &[Row]) -> bool
     ensures { result ≡ all_differences rows.now }
 {
-    for row in rows {
-        if !is_link(row) {
-            return false;
-        }
-    }
-    true
+    rows.iter().all(is_link)
 }
 
 // Each row leads to the next one, and the last one to the first.
 fn is_ring(rows: &[Row]) -> bool
     ensures { result ≡ leads (home_of rows.now) rows.now }
 {
-    for i in 0..rows.len() {
-        let next = if i + 1 < rows.len() { i + 1 } else { 0 };
-        if !same(unknown_with(&rows[i], -1), unknown_with(&rows[next], 1)) {
-            return false;
-        }
-    }
-    true
+    rows.iter()
+        .zip(rows.iter().skip(1).chain(rows.iter().take(1)))
+        .all(|(row, next)| unknown_with(row, -1) == unknown_with(next, 1))
 }
 
 fn sum_constants(rows: &[Row]) -> i128

@@ -5,7 +5,7 @@ ghost use Rattle.judges.specs.Combination.{largest_number, constant_of};
 ghost use Rattle.judges.specs.Residue.{divides as divides_test};
 ghost use Rattle.judges.specs.Gather.{most_combined, held, Within, Small, place_of, put, put_terms, gathered, each_total};
 
-use crate::unknowns::{divides, same};
+use crate::unknowns::divides;
 use rows::{Row, Unknown};
 
 // What an unknown comes to so far.
@@ -43,7 +43,7 @@ fn place(entries: &[Total], unknown: Unknown) -> usize
     ensures { result ≡ place_of entries.now unknown }
 {
     for i in 0..entries.len() {
-        if same(entries[i].unknown, unknown) {
+        if entries[i].unknown == unknown {
             return i;
         }
     }

@@ -1,13 +1,13 @@
 // Equations whose sum leaves a remainder.
 ghost use Rattle.std.specs.Prelude.{◌≡◌, ◌≤◌, ◌∷◌, length, is_ok, Err};
 ghost use Rattle.judges.specs.Judging.{Caused, Judged};
-ghost use Rattle.judges.specs.Residue.{residue_rows, is_equal, all_equal, residue_asks, residue_passes, residue_answer};
+ghost use Rattle.judges.specs.Residue.{residue_rows, all_equal, residue_asks, residue_passes, residue_answer};
 ghost use Rattle.rows.specs.declared.cause.JudgeCause.TheVariants.{BadVoucher};
 ghost use Rattle.judges.specs.ResidueLaw.{residue_sound, residue_bounded};
 
 use crate::combine::{gather, total_constant};
 use crate::meaning::Judge;
-use crate::unknowns::{LARGEST_NUMBER, divides, is_between, last_cause, numbers_fit};
+use crate::unknowns::{LARGEST_NUMBER, divides, last_cause, numbers_fit};
 use rows::{JudgeCause, Relation, Row};
 
 const MOST_ROWS: usize = 16;
@@ -43,24 +43,10 @@ impl Judge for Residue {
     }
 }
 
-fn is_equation(row: &Row) -> bool
-    ensures { result ≡ is_equal row.now.relation }
-{
-    match row.relation {
-        Relation::AtLeast => false,
-        Relation::Equal => true,
-    }
-}
-
 fn are_equations(rows: &[Row]) -> bool
     ensures { result ≡ all_equal rows.now }
 {
-    for row in rows {
-        if !is_equation(row) {
-            return false;
-        }
-    }
-    true
+    rows.iter().all(|row| row.relation == Relation::Equal)
 }
 
 // The judge's answer.
@@ -80,7 +66,7 @@ fn leave_remainder(rows: &[Row], voucher: &[i32]) -> Result<(), JudgeCause>
 fn fits(rows: &[Row], modulus: i32, numbers: &[i32]) -> bool
     ensures { result ≡ residue_passes rows.now (modulus ∷ numbers.now) BadVoucher }
 {
-    is_between(2, LARGEST_NUMBER, modulus) && numbers_fit(-LARGEST_NUMBER, rows.len(), numbers)
+    (2..=LARGEST_NUMBER).contains(&modulus) && numbers_fit(-LARGEST_NUMBER, rows.len(), numbers)
 }
 
 // The answer for a voucher of this modulus and these numbers.
