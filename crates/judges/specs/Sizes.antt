@@ -62,9 +62,9 @@ module _ (s p : ℤ) (i : ℕ) (few : i < 32) (hs : unsigned_abs s ≤ i * 2 ^ 8
   constants_size = omega (arith, ints)
 
 -- a total and what is added to it
-module _ (s p : ℤ) (hs : unsigned_abs s ≤ 2 ^ 62) (hp : unsigned_abs p ≤ 2 ^ 51) where
-  pub total_fits : FitsSigned w64 (to_z w64 (of_z w64 s) +ℤ to_z w64 (of_z w64 p))
+module _ (s p : ℤ) (hs : unsigned_abs s ≤ 2 ^ 100) (hp : unsigned_abs p ≤ 2 ^ 100) where
+  pub total_fits : FitsSigned w128 (to_z w128 (of_z w128 s) +ℤ to_z w128 (of_z w128 p))
   total_fits = omega (arith, ints)
 
-  pub total_is : to_z w64 (of_z w64 (to_z w64 (of_z w64 s) +ℤ to_z w64 (of_z w64 p))) ≡ s +ℤ p
+  pub total_is : to_z w128 (of_z w128 (to_z w128 (of_z w128 s) +ℤ to_z w128 (of_z w128 p))) ≡ s +ℤ p
   total_is = omega (arith, ints)

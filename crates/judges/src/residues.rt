@@ -5,7 +5,7 @@ ghost use Rattle.judges.specs.Residue.{residue_rows, all_equal, residue_asks, re
 ghost use Rattle.rows.specs.declared.cause.JudgeCause.TheVariants.{BadVoucher};
 ghost use Rattle.judges.specs.ResidueLaw.{residue_sound, residue_bounded};
 
-use crate::combine::{gather, total_constant};
+use crate::combine::Combination;
 use crate::meaning::Judge;
 use crate::unknowns::{LARGEST_NUMBER, divides, last_cause, numbers_fit};
 use rows::{JudgeCause, Relation, Row};
@@ -80,9 +80,6 @@ fn leave_by(rows: &[Row], modulus: i32, numbers: &[i32]) -> Result<(), JudgeCaus
     if !are_equations(rows) {
         return Err(JudgeCause::BadShape);
     }
-    let unknowns_gone = gather(rows, numbers).is_divided(modulus);
-    last_cause(
-        unknowns_gone,
-        !divides(modulus, total_constant(rows, numbers)),
-    )
+    let sum = Combination::of(rows, numbers);
+    last_cause(sum.is_divided(modulus), !divides(modulus, sum.constant))
 }

@@ -4,7 +4,7 @@ ghost use Rattle.judges.specs.Judging.{Caused, Judged};
 ghost use Rattle.judges.specs.Sum.{sum_rows, sum_asks, sum_answer};
 ghost use Rattle.judges.specs.SumLaw.{sum_sound, sum_bounded};
 
-use crate::combine::{gather, total_constant};
+use crate::combine::Combination;
 use crate::meaning::Judge;
 use crate::unknowns::{LARGEST_CONFLICT, last_cause, numbers_fit};
 use rows::{JudgeCause, Row};
@@ -52,9 +52,6 @@ fn add_up(rows: &[Row], voucher: &[i32]) -> Result<(), JudgeCause>
     if !numbers_fit(0, rows.len(), voucher) {
         return Err(JudgeCause::BadVoucher);
     }
-    let unknowns_gone = gather(rows, voucher).is_divided(0);
-    last_cause(
-        unknowns_gone,
-        total_constant(rows, voucher) <= LARGEST_CONFLICT,
-    )
+    let sum = Combination::of(rows, voucher);
+    last_cause(sum.is_divided(0), sum.constant <= LARGEST_CONFLICT)
 }

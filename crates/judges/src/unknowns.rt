@@ -24,7 +24,7 @@ pub(crate) fn divides(m: i32, z: i128) -> bool
     }
 }
 
-pub(crate) fn is_between(low: i32, high: i32, n: i32) -> bool
+fn is_between(low: i32, high: i32, n: i32) -> bool
     ensures { result ≡ between low high n }
 {
     (low..=high).contains(&n)
