@@ -18,7 +18,7 @@ pub struct Chain;
 impl Judge for Chain {
     const ROWS: usize = MOST_ROWS;
 
-    ghost most = { chain_rows };
+    ghost ROWS = { chain_rows };
 
     ghost admits = { λ _ rows voucher. is_ok (chain_answer rows voucher) };
 
@@ -27,10 +27,6 @@ impl Judge for Chain {
     ghost sound = { λ s. chain_sound };
 
     ghost bounded = { λ s. chain_bounded };
-
-    fn most_rows() -> usize {
-        Self::ROWS
-    }
 
     fn judge(&self, rows: &[Row], voucher: &[i32]) -> Result<(), JudgeCause>
         ensures yes { is_ok result ≡ is_ok (chain_answer rows.now voucher.now) }

@@ -20,7 +20,7 @@ pub struct Pair<F, S> {
 impl<F: Judge, S: Judge> Judge for Pair<F, S> {
     const ROWS: usize = MOST_ROWS;
 
-    ghost most = { pair_rows };
+    ghost ROWS = { pair_rows };
 
     ghost admits = { λ p rows voucher. pair_admits (F.Judge.admits p.first) (S.Judge.admits p.second) rows voucher };
 
@@ -29,10 +29,6 @@ impl<F: Judge, S: Judge> Judge for Pair<F, S> {
     ghost sound = { λ s. pair_sound (F.Judge.admits s.first) (S.Judge.admits s.second) (F.Judge.sound s.first) (S.Judge.sound s.second) };
 
     ghost bounded = { Prim.search rules };
-
-    fn most_rows() -> usize {
-        MOST_ROWS
-    }
 
     fn judge(&self, rows: &[Row], voucher: &[i32]) -> Result<(), JudgeCause>
         ensures yes { is_ok result ≡ pair_admits (F.Judge.admits self.now.first) (S.Judge.admits self.now.second) rows.now voucher.now }

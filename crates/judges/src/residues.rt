@@ -19,7 +19,7 @@ pub struct Residue;
 impl Judge for Residue {
     const ROWS: usize = MOST_ROWS;
 
-    ghost most = { residue_rows };
+    ghost ROWS = { residue_rows };
 
     ghost admits = { λ _ rows voucher. is_ok (residue_answer rows voucher) };
 
@@ -28,10 +28,6 @@ impl Judge for Residue {
     ghost sound = { λ s. residue_sound };
 
     ghost bounded = { λ s. residue_bounded };
-
-    fn most_rows() -> usize {
-        Self::ROWS
-    }
 
     fn judge(&self, rows: &[Row], voucher: &[i32]) -> Result<(), JudgeCause>
         ensures yes { is_ok result ≡ is_ok (residue_answer rows.now voucher.now) }

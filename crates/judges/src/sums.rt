@@ -18,7 +18,7 @@ pub struct Sum;
 impl Judge for Sum {
     const ROWS: usize = MOST_ROWS;
 
-    ghost most = { sum_rows };
+    ghost ROWS = { sum_rows };
 
     ghost admits = { λ _ rows voucher. is_ok (sum_answer rows voucher) };
 
@@ -27,10 +27,6 @@ impl Judge for Sum {
     ghost sound = { λ s. sum_sound };
 
     ghost bounded = { λ s. sum_bounded };
-
-    fn most_rows() -> usize {
-        Self::ROWS
-    }
 
     fn judge(&self, rows: &[Row], voucher: &[i32]) -> Result<(), JudgeCause>
         ensures yes { is_ok result ≡ is_ok (sum_answer rows.now voucher.now) }
