@@ -9,14 +9,12 @@ use crate::meaning::Judge;
 use crate::unknowns::{LARGEST_CONFLICT, last_cause};
 use rows::{JudgeCause, Relation, Row, Unknown};
 
-const MOST_ROWS: usize = 64;
-
 // The voucher is empty.
 #[derive(Clone, Copy)]
 pub struct Chain;
 
 impl Judge for Chain {
-    const ROWS: usize = MOST_ROWS;
+    const ROWS: usize = 64;
 
     ghost ROWS = { chain_rows };
 
@@ -42,7 +40,7 @@ impl Judge for Chain {
 fn go_round(rows: &[Row], voucher: &[i32]) -> Result<(), JudgeCause>
     ensures { result ≡ chain_answer rows.now voucher.now }
 {
-    if rows.len() > MOST_ROWS {
+    if rows.len() > Chain::ROWS {
         return Err(JudgeCause::TooManyRows);
     }
     if !voucher.is_empty() {

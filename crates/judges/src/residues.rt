@@ -10,14 +10,12 @@ use crate::meaning::Judge;
 use crate::unknowns::{LARGEST_NUMBER, divides, last_cause, numbers_fit};
 use rows::{JudgeCause, Relation, Row};
 
-const MOST_ROWS: usize = 16;
-
 // The voucher has a modulus, from 2 to 1,048,576, and then one number a row, within ±1,048,576.
 #[derive(Clone, Copy)]
 pub struct Residue;
 
 impl Judge for Residue {
-    const ROWS: usize = MOST_ROWS;
+    const ROWS: usize = 16;
 
     ghost ROWS = { residue_rows };
 
@@ -49,7 +47,7 @@ fn are_equations(rows: &[Row]) -> bool
 fn leave_remainder(rows: &[Row], voucher: &[i32]) -> Result<(), JudgeCause>
     ensures { result ≡ residue_answer rows.now voucher.now }
 {
-    if rows.len() > MOST_ROWS {
+    if rows.len() > Residue::ROWS {
         return Err(JudgeCause::TooManyRows);
     }
     match voucher {

@@ -9,14 +9,12 @@ use crate::meaning::Judge;
 use crate::unknowns::{LARGEST_CONFLICT, last_cause, numbers_fit};
 use rows::{JudgeCause, Row};
 
-const MOST_ROWS: usize = 32;
-
 // The voucher has one number a row, from 0 to 1,048,576.
 #[derive(Clone, Copy)]
 pub struct Sum;
 
 impl Judge for Sum {
-    const ROWS: usize = MOST_ROWS;
+    const ROWS: usize = 32;
 
     ghost ROWS = { sum_rows };
 
@@ -42,7 +40,7 @@ impl Judge for Sum {
 fn add_up(rows: &[Row], voucher: &[i32]) -> Result<(), JudgeCause>
     ensures { result ≡ sum_answer rows.now voucher.now }
 {
-    if rows.len() > MOST_ROWS {
+    if rows.len() > Sum::ROWS {
         return Err(JudgeCause::TooManyRows);
     }
     if !numbers_fit(0, rows.len(), voucher) {
