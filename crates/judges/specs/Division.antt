@@ -3,12 +3,11 @@ use Rattle.std.specs.Prelude.{◌≡◌, ◌/◌, ◌%◌, ◌⊎◌, ℤ, pos, 
 use Rattle.std.proofs.Common.{sym, ap, ◌∙◌, inl, inr, ⊎_elim, arith, div-add-mod'}
 use Rattle.std.proofs.Math.Nat.{mul-mod_left, mod-zero}
 use Rattle.std.proofs.Math.IntN.{zero-*ℤ, *ℤ_comm}
-use Rattle.std.proofs.lemmas.Int.{ints}
+use Rattle.std.proofs.lemmas.Int.{ints, unsigned_abs-mul}
 use Rattle.std.proofs.lemmas.Bool.{eqb-true, eq-eqb}
 use Rattle.judges.specs.Combination.{is_zero}
 use Rattle.judges.specs.Residue.{Divides, divides}
 use Rattle.judges.specs.Ring.{add_times, times_times}
-use Rattle.judges.specs.Sizes.{nat_abs_mul}
 
 neg_times : (x y : ℤ) → neg_ℤ x *ℤ y ≡ neg_ℤ (x *ℤ y)
 neg_times x y =
@@ -25,13 +24,13 @@ same_size (negsuc a) (negsuc b) h = inl (omega (arith, ints))
 divided : (m z : ℤ) → unsigned_abs z % unsigned_abs m ≡ 0 → Divides m z
 divided m z h =
     let k = unsigned_abs z / unsigned_abs m in
-    let size : unsigned_abs z ≡ unsigned_abs (pos k *ℤ m) = let d = div-add-mod' (unsigned_abs z) (unsigned_abs m) in let n = nat_abs_mul (pos k) m in omega (arith, d, n, h) in
+    let size : unsigned_abs z ≡ unsigned_abs (pos k *ℤ m) = let d = div-add-mod' (unsigned_abs z) (unsigned_abs m) in let n = unsigned_abs-mul (pos k) m in omega (arith, d, n, h) in
     ⊎_elim (λ e. (pos k, e)) (λ e. (neg_ℤ (pos k), e ∙ sym (neg_times (pos k) m))) (same_size z (pos k *ℤ m) size)
 
 pub divides_decides : (m z : ℤ) → Decides (divides m z) (Divides m z)
 divides_decides m z = (
   λ h. divided m z (eqb-true (unsigned_abs z % unsigned_abs m) 0 h),
-  λ d. eq-eqb (unsigned_abs z % unsigned_abs m) 0 (ap (λ n. n % unsigned_abs m) (ap unsigned_abs d.1 ∙ nat_abs_mul d.0 m) ∙ mul-mod_left (unsigned_abs d.0) (unsigned_abs m)),
+  λ d. eq-eqb (unsigned_abs z % unsigned_abs m) 0 (ap (λ n. n % unsigned_abs m) (ap unsigned_abs d.1 ∙ unsigned_abs-mul d.0 m) ∙ mul-mod_left (unsigned_abs d.0) (unsigned_abs m)),
 )
 
 -- 0 divides 0 alone

@@ -1,12 +1,11 @@
-use Rattle.std.proofs.Common.{◌≡◌, ◌^◌, get_or, set, Some, None, rules, arith, ◌∙◌, sym, ap}
+use Rattle.std.proofs.Common.{◌≡◌, ◌^◌, get_or, set, ◌+ℤ◌, to_z, of_z, Some, None, rules, arith, ◌∙◌, sym, ap}
 use Rattle.std.specs.Int.{w128}
 use Rattle.std.specs.List.{position}
 use Rattle.std.proofs.Math.ListN.{length-set}
-use Rattle.std.proofs.lemmas.Int.{to_z-of_z}
+use Rattle.std.proofs.lemmas.Int.{ints, to_z-of_z}
 use Rattle.std.proofs.lemmas.List.Quantifiers.{position-Some}
 use Rattle.arrayvec.proofs.ArrayVecLemmas.{items-with_items}
 use Rattle.judges.specs.Unknowns.{same_unknown}
-use Rattle.judges.specs.Sizes.{total_fits, total_is}
 use Rattle.judges.proofs.Tables.{no_total, peak_at, put_leaves, put_at, put_end}
 use Rattle.judges.proofs.combine.add.Goals as goal
 
@@ -17,7 +16,7 @@ overflow_add-deref_mut c =
     let at : position (λ e. same_unknown e.unknown c.args.unknown) es ≡ Some i = search rules in
     let one = peak_at es i (position-Some _ es i no_total at).0 in
     let all = c.requires in
-    rw c.deref_mut.ensures.value (total_fits (get_or es i no_total).total c.args.by (omega arith) (omega arith))
+    rw c.deref_mut.ensures.value (omega (arith, ints))
 
 pub returns-in-Some : goal.returns-in-Some
 returns-in-Some c =
@@ -27,8 +26,9 @@ returns-in-Some c =
     let at : position (λ e. same_unknown e.unknown c.args.unknown) es ≡ Some i = search rules in
     let one = peak_at es i (position-Some _ es i no_total at).0 in
     let all = c.requires in
+    let sum : to_z w128 (of_z w128 (to_z w128 (of_z w128 e.total) +ℤ to_z w128 (of_z w128 c.args.by))) ≡ e.total +ℤ c.args.by = omega (arith, ints) in
     let table = rw c.deref_mut.ensures.value (items-with_items c.args.totals.now _ (length-set es i _))
-    ∙ ap (λ z. set es i (record { unknown = e.unknown; total = z })) (total_is e.total c.args.by (omega arith) (omega arith))
+    ∙ ap (λ z. set es i (record { unknown = e.unknown; total = z })) sum
     ∙ sym (put_at c.args.unknown c.args.by es i at) in
     let after = put_leaves es _ c.args.unknown c.args.by (2 ^ 83) c.requires.size table in
     record { table = after.0; count = after.1; sizes = after.2 }

@@ -6,7 +6,6 @@ use Rattle.std.proofs.lemmas.Slice.Zip.{zip_turn}
 use Rattle.rows.specs.Meaning.{terms_of}
 use Rattle.judges.specs.Unknowns.{no_row}
 use Rattle.judges.specs.Gather.{put_terms, gathered}
-use Rattle.judges.specs.Sizes.{constants_are, constants_size}
 use Rattle.judges.proofs.Tables.{gathered_more, constant_more}
 use Rattle.judges.proofs.combine.Combination.of.Goals as goal
 
@@ -27,10 +26,10 @@ loop-row-preserved c =
     let product = simp to_z-of_z at c.weigh-constant.ensures.value in
     let size = c.weigh-constant.ensures.size in
     let more = constant_more rows ns k t.0 t.1 r n (t.2 no_row) (t.3 (pos 0)) in
-    rw (length_push xs (c.in-Some.row, c.in-Some.number), constants_are _ c.weigh-constant.result k few kept.4 size) (
+    rw (length_push xs (c.in-Some.row, c.in-Some.number)) (
       kept.0 ∙ gathered_more rows ns k t.0 t.1 r n (t.2 no_row) (t.3 (pos 0)) c.loop-row.totals.items ∙ sym (ap (λ es. gathered es (drop (k + 1) rows) (drop (k + 1) ns)) table),
       omega (arith, ints, kept.1, more, product),
       omega (arith, kept.2, c.add_terms.ensures.count),
       omega (arith, kept.3, c.add_terms.ensures.sizes),
-      constants_size _ c.weigh-constant.result k few kept.4 size,
+      omega (arith, ints, kept.4),
     )
