@@ -25,16 +25,3 @@ pub numbers_decide : (low : ℤ) (count : ℕ) (ns : List ℤ) → Decides (numb
 numbers_decide low count ns =
     Decides-and _ _ (Decides-eqb (length ns) count)
     (Decides-by_and (between low (pos largest_number)) (Between low (pos largest_number)) (all_between low (pos largest_number)) (between_decides low (pos largest_number)) refl (λ _ _. refl) ns)
-
--- numbers that are between are small
-module _ (low : ℤ) (above : neg_ℤ (pos largest_number) ≤ℤ low) where
-  one_small : (n : ℤ) → between low (pos largest_number) n ≡ true → unsigned_abs n ≤ largest_number
-  one_small n h = let b = (between_decides low (pos largest_number) n).0 h in let l = b.0 in let g = b.1 in omega (arith, ints)
-
-  pub all_small : (ns : List ℤ) → all_between low (pos largest_number) ns ≡ true → Small ns
-  all_small [] h k = omega arith
-  all_small (n ∷ ns) h zero = one_small n (and_parts (between low (pos largest_number) n) (all_between low (pos largest_number) ns) h).0
-  all_small (n ∷ ns) h (suc k) = all_small ns (and_parts (between low (pos largest_number) n) (all_between low (pos largest_number) ns) h).1 k
-
-  pub numbers_small : (count : ℕ) (ns : List ℤ) → numbers_fit low count ns ≡ true → (length ns ≡ count) × Small ns
-  numbers_small count ns h = let p = and_parts _ (all_between low (pos largest_number) ns) h in ((Decides-eqb (length ns) count).0 p.0, all_small ns p.1)
