@@ -1,13 +1,9 @@
 -- A ring of rows: each one beside the next, and the last one beside the first.
-use Rattle.std.proofs.Common.{◌≡◌, Bool, true, false, Some, cond, ◌&&◌, List, [], ◌∷◌, ◌++◌, take, drop, ℤ, refl, ap}
-use Rattle.std.specs.Option.{option_map, unwrap_or}
-use Rattle.std.specs.List.{find, list_all, zip}
-use Rattle.std.proofs.lemmas.Bool.{cond_both}
-use Rattle.rows.specs.declared.row.Unknown.{Unknown}
-use Rattle.rows.specs.declared.row.Term.{Term}
+use Rattle.std.proofs.Common.{◌≡◌, Bool, ◌&&◌, List, [], ◌∷◌, ◌++◌, take, drop, refl, ap}
+use Rattle.std.specs.List.{list_all, zip}
 use Rattle.rows.specs.declared.row.Row.{Row}
-use Rattle.judges.specs.Unknowns.{same_unknown, same_number, no_unknown}
-use Rattle.judges.specs.Chain.{unknown_with_lem, plus_of, minus_of, leads, home_of}
+use Rattle.judges.specs.Unknowns.{same_unknown}
+use Rattle.judges.specs.Chain.{plus_of, minus_of, leads, home_of}
 
 -- a row and the one that follows it
 abbrev pub Linked : Row × Row → Bool

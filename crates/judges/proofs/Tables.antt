@@ -1,19 +1,17 @@
 -- What `put` does to a table, by place, and the sizes of its totals.
-use Rattle.std.proofs.Common.{◌≡◌, ℕ, zero, suc, ◌+◌, ◌*◌, ◌^◌, ◌<◌, ◌≤◌, Bool, true, false, cond, not, List, [], ◌∷◌, ◌++◌, length, get_or, take, drop, set, max, ℤ, pos, ◌+ℤ◌, ◌*ℤ◌, unsigned_abs, Some, None, nat_lt, refl, ap, ◌∙◌, arith}
+use Rattle.std.proofs.Common.{◌≡◌, ℕ, zero, suc, ◌+◌, ◌<◌, ◌≤◌, Bool, true, false, cond, List, [], ◌∷◌, ◌++◌, length, get_or, drop, set, ℤ, pos, ◌+ℤ◌, ◌*ℤ◌, unsigned_abs, Some, None, nat_lt, refl, ap, arith}
 use Rattle.std.specs.List.{position, position_or_len}
 use Rattle.std.proofs.lemmas.List.Quantifiers.{position-Some}
 use Rattle.std.proofs.lemmas.List.Recursion.{max_bounds}
 use Rattle.std.proofs.lemmas.List.Sums.{fails_before_first}
 use Rattle.std.proofs.lemmas.Bool.Decides.{nat_tests}
-use Rattle.std.proofs.lemmas.List.{drop_more, drop_all}
+use Rattle.std.proofs.lemmas.List.{drop_more}
 use Rattle.std.proofs.lemmas.Bool.{cond_both}
 use Rattle.std.proofs.lemmas.Int.{ints}
 use Rattle.rows.specs.declared.row.Unknown.{Unknown}
-use Rattle.rows.specs.declared.row.Term.{Term}
 use Rattle.rows.specs.declared.row.Row.{Row}
 use Rattle.judges.specs.declared.combine.Total.{Total}
 use Rattle.rows.specs.Meaning.{terms_of}
-use Rattle.rows.specs.Making.{no_term}
 use Rattle.judges.specs.Unknowns.{same_unknown, no_unknown, no_row}
 use Rattle.judges.specs.Combination.{constant_of}
 use Rattle.judges.specs.Gather.{put, put_terms, gathered, peak}

@@ -1,11 +1,11 @@
 -- The answer by tests is the answer by conditions, where each test decides its condition.
 use Rattle.std.specs.Prelude.{◌≡◌, ◌<◌, Bool, true, false, T, is_ok, Ok, Err, Decides, refl}
-use Rattle.std.proofs.Common.{sym, ap, subst, ◌∙◌, arith}
+use Rattle.std.proofs.Common.{arith}
 use Rattle.std.proofs.lemmas.Bool.{both_ways}
 use Rattle.rows.specs.Causes.{judge_cause_number}
 use Rattle.rows.specs.declared.cause.JudgeCause.{JudgeCause}
 use Rattle.rows.specs.declared.cause.JudgeCause.TheVariants.{TooManyRows, BadVoucher, BadShape, UnknownsLeft, NoConflict}
-use Rattle.judges.specs.Judging.{Answer, Judged, tried, answer_of, Caused}
+use Rattle.judges.specs.Judging.{Answer, Judged, tried, answer_of}
 
 fails : (P : Type 0) → Decides false P → P → ⊥
 fails P d p = both_ways false refl (d.1 p)

@@ -1,13 +1,12 @@
 -- The numbers of a voucher, and tests of whole numbers.
-use Rattle.std.specs.Prelude.{◌≡◌, ℕ, zero, suc, ◌≤◌, true, List, [], ◌∷◌, length, ℤ, pos, neg_ℤ, ◌≤ℤ◌, Decides, int_le, nat_le, unsigned_abs, refl}
+use Rattle.std.specs.Prelude.{◌≡◌, ℕ, ◌≤◌, List, length, ℤ, pos, ◌≤ℤ◌, Decides, int_le, nat_le, refl}
 use Rattle.std.proofs.Common.{arith}
 use Rattle.std.proofs.lemmas.Int.{ints}
-use Rattle.std.proofs.lemmas.Bool.{and_parts, leb-true, le-leb}
+use Rattle.std.proofs.lemmas.Bool.{leb-true, le-leb}
 use Rattle.std.proofs.lemmas.Bool.Decides.{Decides-eqb, Decides-and}
 use Rattle.std.proofs.ByRecursion.{Decides-by_and}
 use Rattle.judges.specs.Unknowns.{same_number}
 use Rattle.judges.specs.Combination.{largest_number, Between, between, all_between, NumbersFit, numbers_fit}
-use Rattle.judges.specs.Gather.{Small}
 
 pub leb_decides : (a b : ℕ) → Decides (nat_le a b) (a ≤ b)
 leb_decides a b = (leb-true a b, le-leb a b)

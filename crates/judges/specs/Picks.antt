@@ -1,14 +1,9 @@
 -- The law of a pair.
-use Rattle.std.specs.Prelude.{◌≡◌, zero, suc, ◌-◌, ◌<◌, ◌≤◌, Bool, true, false, ◌&&◌, T, List, [], ◌∷◌, length, take, drop, ℤ, pos, negsuc, is_ok, Ok, Err, ◌≢◌, nat_le, slice_index_or, refl}
-use Rattle.std.proofs.Common.{subst, inl, inr, arith, take_all}
-use Rattle.std.proofs.lemmas.Int.{ints}
-use Rattle.std.proofs.lemmas.Bool.{le-leb, lt-leb}
+use Rattle.std.specs.Prelude.{zero, suc, Bool, true, false, ◌&&◌, T, List, [], ◌∷◌, length, ℤ, pos, negsuc, nat_le}
 use Rattle.rows.specs.Meaning.{Impossible}
-use Rattle.rows.specs.declared.cause.JudgeCause.{JudgeCause}
-use Rattle.rows.specs.declared.cause.JudgeCause.TheVariants.{TooManyRows, BadVoucher}
 use Rattle.rows.specs.declared.row.Row.{Row}
-use Rattle.judges.specs.Judging.{Answer, Meaning, Caused}
-use Rattle.judges.specs.Pair.{pair_rows, picked, pair_admits, pair_gives}
+use Rattle.judges.specs.Judging.{Meaning}
+use Rattle.judges.specs.Pair.{pair_rows, picked, pair_admits}
 
 and_right : (a b : Bool) → T (a && b) → T b
 and_right true b h = h

@@ -1,5 +1,5 @@
 -- The judge Residue: a modulus divides all coefficients of a sum of equations, and not its constant.
-use Rattle.std.specs.Prelude.{◌≡◌, ℕ, ◌%◌, ◌≤◌, Bool, true, false, not, ◌&&◌, List, [], ◌∷◌, length, drop, ℤ, pos, ◌*ℤ◌, neg_ℤ, ◌==◌, nat_le, slice_index_or, unsigned_abs}
+use Rattle.std.specs.Prelude.{◌≡◌, ℕ, ◌%◌, ◌≤◌, Bool, true, false, not, ◌&&◌, List, length, drop, ℤ, pos, ◌*ℤ◌, neg_ℤ, ◌==◌, nat_le, slice_index_or, unsigned_abs}
 use Rattle.std.specs.List.{AllByRecursion, list_all}
 use Rattle.rows.specs.declared.cause.JudgeCause.{JudgeCause}
 use Rattle.rows.specs.declared.cause.JudgeCause.TheVariants.{TooManyRows, BadVoucher, BadShape, UnknownsLeft, NoConflict}

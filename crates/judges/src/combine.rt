@@ -58,7 +58,11 @@ fn add_terms(totals: &mut Totals, row: &Row, number: i32)
     ensures sizes { peak totals.new.items ≤ peak totals.old.items + 2 ^ 86 }
 {
     for term in row.terms() {
-        add(totals, term.unknown, weigh(number, i64::from(term.coefficient)));
+        add(
+            totals,
+            term.unknown,
+            weigh(number, i64::from(term.coefficient)),
+        );
     }
 }
 

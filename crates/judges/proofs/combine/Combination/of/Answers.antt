@@ -1,11 +1,10 @@
-use Rattle.std.proofs.Common.{◌≡◌, ◌+◌, ◌<◌, length, drop, pos, FitsSigned, rules, arith, sym, ap, ◌∙◌}
+use Rattle.std.proofs.Common.{◌+◌, ◌<◌, length, drop, pos, FitsSigned, rules, arith, sym, ap, ◌∙◌}
 use Rattle.std.specs.Int.{w32, w64}
 use Rattle.std.proofs.lemmas.Int.{ints, to_z-of_z}
 use Rattle.std.proofs.lemmas.List.{length_push}
 use Rattle.std.proofs.lemmas.Slice.Zip.{zip_turn}
-use Rattle.rows.specs.Meaning.{terms_of}
 use Rattle.judges.specs.Unknowns.{no_row}
-use Rattle.judges.specs.Gather.{put_terms, gathered}
+use Rattle.judges.specs.Gather.{gathered}
 use Rattle.judges.proofs.Tables.{gathered_more, constant_more}
 use Rattle.judges.proofs.combine.Combination.of.Goals as goal
 
