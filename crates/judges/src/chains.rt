@@ -6,7 +6,7 @@ ghost use Rattle.judges.specs.Chain.{chain_rows, unknown_with_lem, is_difference
 ghost use Rattle.judges.specs.ChainLaw.{chain_sound, chain_bounded};
 
 use crate::meaning::Judge;
-use crate::unknowns::{LARGEST_CONFLICT, last_cause};
+use crate::shared::{LARGEST_CONFLICT, last_cause};
 use rows::{JudgeCause, Relation, Row, Unknown};
 
 // The voucher is empty.

@@ -1,5 +1,5 @@
 // The sum of rows, each times its number: a total for each unknown, and a constant.
-ghost use Rattle.std.specs.Prelude.{◌≡◌, ℕ, ◌+◌, ◌^◌, ◌<◌, ◌≤◌, [], length, ◌*ℤ◌, ◌+ℤ◌, position, unsigned_abs};
+ghost use Rattle.std.specs.Prelude.{◌≡◌, ◌+◌, ◌^◌, ◌<◌, ◌≤◌, [], length, ◌*ℤ◌, position, unsigned_abs};
 ghost use Rattle.arrayvec.specs.ArrayVec.{array_vec_len};
 ghost use Rattle.rows.specs.Meaning.{terms_of};
 ghost use Rattle.judges.specs.Combination.{largest_number, constant_of};
@@ -7,7 +7,7 @@ ghost use Rattle.judges.specs.Residue.{divides as divides_test};
 ghost use Rattle.judges.specs.Unknowns.{same_unknown};
 ghost use Rattle.judges.specs.Gather.{most_combined, peak, Small, put, put_terms, gathered, each_total};
 
-use crate::unknowns::divides;
+use crate::shared::divides;
 use arrayvec::ArrayVec;
 use rows::{Row, Unknown};
 
@@ -58,11 +58,8 @@ fn add_terms(totals: &mut Totals, row: &Row, number: i32)
     ensures sizes { peak totals.new.items ≤ peak totals.old.items + 2 ^ 86 }
 {
     for term in row.terms() {
-        add(
-            totals,
-            term.unknown,
-            weigh(number, i64::from(term.coefficient)),
-        );
+        let by = weigh(number, i64::from(term.coefficient));
+        add(totals, term.unknown, by);
     }
 }
 

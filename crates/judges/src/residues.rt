@@ -7,7 +7,7 @@ ghost use Rattle.judges.specs.ResidueLaw.{residue_sound, residue_bounded};
 
 use crate::combine::Combination;
 use crate::meaning::Judge;
-use crate::unknowns::{LARGEST_NUMBER, divides, last_cause, numbers_fit};
+use crate::shared::{LARGEST_NUMBER, divides, last_cause, numbers_fit};
 use rows::{JudgeCause, Relation, Row};
 
 // The voucher has a modulus, from 2 to 1,048,576, and then one number a row, within ±1,048,576.

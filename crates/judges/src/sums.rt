@@ -6,7 +6,7 @@ ghost use Rattle.judges.specs.SumLaw.{sum_sound, sum_bounded};
 
 use crate::combine::Combination;
 use crate::meaning::Judge;
-use crate::unknowns::{LARGEST_CONFLICT, last_cause, numbers_fit};
+use crate::shared::{LARGEST_CONFLICT, last_cause, numbers_fit};
 use rows::{JudgeCause, Row};
 
 // The voucher has one number a row, from 0 to 1,048,576.

@@ -2,7 +2,7 @@ use Rattle.std.proofs.Common.{pos, rules, tests}
 use Rattle.std.proofs.lemmas.Iterator.{YieldsList-from_slice}
 use Rattle.std.proofs.lemmas.Iterator.Search.{all_from_yields_List}
 use Rattle.judges.specs.Combination.{largest_number, between}
-use Rattle.judges.proofs.unknowns.numbers_fit.Goals as goal
+use Rattle.judges.proofs.shared.numbers_fit.Goals as goal
 
 pub returns-then-numbers-count : goal.returns-then-numbers-count
 returns-then-numbers-count c =

@@ -1,4 +1,4 @@
-// What the judges share: unknowns, numbers of a voucher, and the order of the last two causes.
+// What the judges share: numbers of a voucher, division, and the order of the last two causes.
 ghost use Rattle.std.specs.Prelude.{◌≡◌, Ok};
 ghost use Rattle.rows.specs.declared.cause.JudgeCause.TheVariants.{UnknownsLeft, NoConflict};
 ghost use Rattle.judges.specs.Judging.{tried};
