@@ -8,6 +8,11 @@ use Rattle.judges.specs.Gather.{gathered}
 use Rattle.judges.proofs.Tables.{gathered_more, constant_more}
 use Rattle.judges.proofs.combine.Combination.of.Goals as goal
 
+pub overflow_add-constant : goal.overflow_add-constant
+overflow_add-constant c =
+    let t = zip_turn c.args.rows.now c.args.numbers.now c.loop-row.yielded c.into_iter-row-iterator.result c.loop-row.row-iterator c.next.new.self c.next.result (search rules) (search rules) c.loop-row.yielded_by (c.in-Some.row, c.in-Some.number) c.in-Some.is c.next.ensures.steps in
+    omega (arith, ints, t.0, c.requires.few, c.loop-row.invariant.4, c.weigh-constant.ensures.size)
+
 pub loop-row-preserved : goal.loop-row-preserved
 loop-row-preserved c =
     let rows = c.args.rows.now in
