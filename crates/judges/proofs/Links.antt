@@ -6,14 +6,14 @@ use Rattle.judges.specs.Unknowns.{same_unknown}
 use Rattle.judges.specs.Chain.{plus_of, minus_of, leads, home_of}
 
 -- a row and the one that follows it
-abbrev pub Linked : Row × Row → Bool
-Linked p = same_unknown (minus_of p.0) (plus_of p.1)
+abbrev pub linked : Row × Row → Bool
+linked p = same_unknown (minus_of p.0) (plus_of p.1)
 
-leads_on : (first : Row) (rows : List Row) → leads (plus_of first) rows ≡ list_all Linked (zip rows (drop 1 rows ++ first ∷ []))
+leads_on : (first : Row) (rows : List Row) → leads (plus_of first) rows ≡ list_all linked (zip rows (drop 1 rows ++ first ∷ []))
 leads_on first [] = refl
 leads_on first (r ∷ []) = refl
-leads_on first (r ∷ (s ∷ rs)) = ap (λ b. Linked (r, s) && b) (leads_on first (s ∷ rs))
+leads_on first (r ∷ (s ∷ rs)) = ap (λ b. linked (r, s) && b) (leads_on first (s ∷ rs))
 
-pub leads_round : (rows : List Row) → leads (home_of rows) rows ≡ list_all Linked (zip rows (drop 1 rows ++ take 1 rows))
+pub leads_round : (rows : List Row) → leads (home_of rows) rows ≡ list_all linked (zip rows (drop 1 rows ++ take 1 rows))
 leads_round [] = refl
 leads_round (r ∷ rs) = leads_on r (r ∷ rs)

@@ -17,7 +17,7 @@ use Rattle.judges.specs.Unknowns.{same_unknown, same_number, no_unknown}
 abbrev pub chain_rows : ℕ
 chain_rows = 64
 
--- the unknown of the first term with this coefficient, where there is one
+-- the unknown of the first term with this coefficient; `no_unknown` where there is none
 abbrev pub unknown_with_lem : ℤ → List Term → Unknown
 unknown_with_lem c ts = unwrap_or (option_map (λ t. t.unknown) (find (λ t. same_number t.coefficient c) ts)) no_unknown
 
