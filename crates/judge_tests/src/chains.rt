@@ -1,56 +1,29 @@
 // The judge Chain.
 use crate::shared::*;
 use judges::Chain;
+use rows::JudgeCause::{BadShape, BadVoucher, NoConflict, TooManyRows, UnknownsLeft};
 use rows::{Relation, Term, Unknown};
 use std::test::Fail;
 
-// A link in short: the unknown with 1, the one with -1, the constant, and whether the one with -1 stands first.
-type Link = (Unknown, Unknown, i64, bool);
-
-const RING_CASES: [(&str, &[Link], u32); 14] = [
-    ("no rows", &[], 5),
-    ("an unknown to itself", &[(U, U, -1, false)], 0),
-    ("without conflict", &[(U, U, 0, false)], 5),
-    ("there and back", &[(U, W, 0, false), (W, U, -1, false)], 0),
-    ("turned", &[(U, W, -1, true), (W, U, 0, true)], 0),
-    ("mixed", &[(U, W, -3, false), (W, U, 2, true)], 0),
-    ("1 and -1", &[(U, W, 1, false), (W, U, -1, false)], 5),
-    (
-        "three rows",
-        &[(U, W, 5, false), (W, V, -9, true), (V, U, 3, false)],
-        0,
-    ),
-    ("one row", &[(U, W, -1, false)], 4),
-    ("another attribute", &[(U, V, -1, false)], 4),
-    ("the wrong way", &[(U, W, 0, false), (U, W, -1, false)], 4),
-    (
-        "broken at the last link",
-        &[(U, W, 0, false), (W, V, 0, false), (V, W, -1, false)],
-        4,
-    ),
-    (
-        "broken in the middle",
-        &[(U, W, 0, false), (V, W, 0, false), (W, U, -1, false)],
-        4,
-    ),
-    ("broken, without conflict", &[(U, W, 0, false)], 4),
-];
-
 #[test]
+#[rattlefmt::skip]
 fn rings(rt: HostRuntime) -> Result<(), Fail> {
-    for (name, links, expected) in RING_CASES {
-        let mut rows = [bare(0); 3];
-        for (row, (x, y, constant, is_turned)) in rows.iter_mut().zip(links) {
-            *row = if *is_turned {
-                turned(*x, *y, *constant)
-            } else {
-                link(*x, *y, *constant)
-            };
-        }
-        let count = links.len().min(3);
-        answers(&rt, &name, &Chain, &rows[0..count], &[], expected)?;
-    }
-    Ok(())
+    each(&rt, &Chain, &[
+        ("no rows", &[], &[], Err(NoConflict)),
+        ("an unknown to itself", &[link(U, U, -1)], &[], Ok(())),
+        ("without conflict", &[link(U, U, 0)], &[], Err(NoConflict)),
+        ("there and back", &[link(U, W, 0), link(W, U, -1)], &[], Ok(())),
+        ("turned", &[turned(U, W, -1), turned(W, U, 0)], &[], Ok(())),
+        ("mixed", &[link(U, W, -3), turned(W, U, 2)], &[], Ok(())),
+        ("1 and -1", &[link(U, W, 1), link(W, U, -1)], &[], Err(NoConflict)),
+        ("three rows", &[link(U, W, 5), turned(W, V, -9), link(V, U, 3)], &[], Ok(())),
+        ("one row", &[link(U, W, -1)], &[], Err(UnknownsLeft)),
+        ("another attribute", &[link(U, V, -1)], &[], Err(UnknownsLeft)),
+        ("the wrong way", &[link(U, W, 0), link(U, W, -1)], &[], Err(UnknownsLeft)),
+        ("broken at the last link", &[link(U, W, 0), link(W, V, 0), link(V, W, -1)], &[], Err(UnknownsLeft)),
+        ("broken in the middle", &[link(U, W, 0), link(V, W, 0), link(W, U, -1)], &[], Err(UnknownsLeft)),
+        ("broken, without conflict", &[link(U, W, 0)], &[], Err(UnknownsLeft)),
+    ])
 }
 
 const SHAPE_CASES: [(&str, Relation, [Term; 3], usize); 9] = [
@@ -85,9 +58,9 @@ const SHAPE_CASES: [(&str, Relation, [Term; 3], usize); 9] = [
 fn shapes(rt: HostRuntime) -> Result<(), Fail> {
     for (name, relation, terms, count) in SHAPE_CASES {
         let rows = [link(U, U, -1), row(relation, terms, count, -1)];
-        answers(&rt, &name, &Chain, &rows[1..2], &[], 3)?;
-        answers(&rt, &name, &Chain, &rows, &[], 3)?;
-        answers(&rt, &name, &Chain, &rows[1..2], &[0], 2)?;
+        answers(&rt, &name, &Chain, &rows[1..2], &[], Err(BadShape))?;
+        answers(&rt, &name, &Chain, &rows, &[], Err(BadShape))?;
+        answers(&rt, &name, &Chain, &rows[1..2], &[0], Err(BadVoucher))?;
     }
     Ok(())
 }
@@ -99,14 +72,34 @@ fn limits(rt: HostRuntime) -> Result<(), Fail> {
         &rt,
         &Chain,
         &[
-            ("64 rows", &rows[0..64], &[], 0),
-            ("65 rows", &rows, &[], 1),
-            ("65 rows of wrong shape", &[bare(-1); 65], &[], 1),
-            ("65 rows and a voucher", &rows, &[0], 1),
-            ("the least constants", &[link(U, U, i64::MIN); 64], &[], 0),
-            ("the largest constants", &[link(U, U, i64::MAX); 64], &[], 5),
-            ("a voucher", &rows[0..1], &[0], 2),
-            ("a voucher, and broken", &[link(U, W, -1)], &[0], 2),
+            ("64 rows", &rows[0..64], &[], Ok(())),
+            ("65 rows", &rows, &[], Err(TooManyRows)),
+            (
+                "65 rows of wrong shape",
+                &[bare(-1); 65],
+                &[],
+                Err(TooManyRows),
+            ),
+            ("65 rows and a voucher", &rows, &[0], Err(TooManyRows)),
+            (
+                "the least constants",
+                &[link(U, U, i64::MIN); 64],
+                &[],
+                Ok(()),
+            ),
+            (
+                "the largest constants",
+                &[link(U, U, i64::MAX); 64],
+                &[],
+                Err(NoConflict),
+            ),
+            ("a voucher", &rows[0..1], &[0], Err(BadVoucher)),
+            (
+                "a voucher, and broken",
+                &[link(U, W, -1)],
+                &[0],
+                Err(BadVoucher),
+            ),
         ],
     )
 }

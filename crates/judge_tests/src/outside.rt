@@ -14,17 +14,13 @@ pub struct Never;
 impl Judge for Never {
     const ROWS: usize = 64;
 
-    ghost most = { 64 };
+    ghost ROWS = { 64 };
 
     ghost admits = { λ _ _ _. false };
 
     ghost sound = { Prim.search rules };
 
     ghost bounded = { Prim.search rules };
-
-    fn most_rows() -> usize {
-        Self::ROWS
-    }
 
     fn judge(&self, _rows: &[Row], _voucher: &[i32]) -> Result<(), JudgeCause> {
         Err(JudgeCause::NoConflict)
@@ -39,12 +35,7 @@ fn are_opposed(a: &Row, b: &Row) -> bool
     ensures { result ≡ opposed a.now b.now }
 {
     match (a.relation, b.relation, a.terms(), b.terms()) {
-        (Relation::Equal, Relation::Equal, [s], [t]) => {
-            s.coefficient == t.coefficient
-                && s.unknown.object == t.unknown.object
-                && s.unknown.attribute == t.unknown.attribute
-                && a.constant != b.constant
-        }
+        (Relation::Equal, Relation::Equal, [s], [t]) => s == t && a.constant != b.constant,
         _ => false,
     }
 }
@@ -52,17 +43,13 @@ fn are_opposed(a: &Row, b: &Row) -> bool
 impl Judge for Clash {
     const ROWS: usize = 2;
 
-    ghost most = { 2 };
+    ghost ROWS = { 2 };
 
     ghost admits = { λ _ rows voucher. clash_admits rows voucher };
 
     ghost sound = { λ s. clash_sound };
 
     ghost bounded = { Prim.search rules };
-
-    fn most_rows() -> usize {
-        Self::ROWS
-    }
 
     fn judge(&self, rows: &[Row], voucher: &[i32]) -> Result<(), JudgeCause> {
         match (rows, voucher) {

@@ -2,6 +2,7 @@
 use crate::outside::*;
 use crate::shared::*;
 use judges::{Chain, Pair, Residue, Sum};
+use rows::JudgeCause::{BadShape, BadVoucher, NoConflict, TooManyRows, UnknownsLeft};
 use rows::Relation;
 use std::test::Fail;
 
@@ -19,23 +20,23 @@ fn example() -> Nested {
 
 #[test]
 fn picks(rt: HostRuntime) -> Result<(), Fail> {
-    let table: [(&'static [i32], u32); 16] = [
-        (&[0, 1, 1], 0),
-        (&[0, 1, 0], 4),
-        (&[0, 0, 0], 5),
-        (&[0, 1], 2),
-        (&[0], 2),
-        (&[], 2),
-        (&[2, 1, 1], 2),
-        (&[-1, 1, 1], 2),
-        (&[1_048_576], 2),
-        (&[1, 0], 0),
-        (&[1, 0, 0], 2),
-        (&[1], 2),
-        (&[1, 2], 2),
-        (&[1, 1, 2, 1, 1], 3),
-        (&[1, 1, 1, 1, 1], 2),
-        (&[1, 1], 2),
+    let table: [(&'static [i32], Answer); 16] = [
+        (&[0, 1, 1], Ok(())),
+        (&[0, 1, 0], Err(UnknownsLeft)),
+        (&[0, 0, 0], Err(NoConflict)),
+        (&[0, 1], Err(BadVoucher)),
+        (&[0], Err(BadVoucher)),
+        (&[], Err(BadVoucher)),
+        (&[2, 1, 1], Err(BadVoucher)),
+        (&[-1, 1, 1], Err(BadVoucher)),
+        (&[1_048_576], Err(BadVoucher)),
+        (&[1, 0], Ok(())),
+        (&[1, 0, 0], Err(BadVoucher)),
+        (&[1], Err(BadVoucher)),
+        (&[1, 2], Err(BadVoucher)),
+        (&[1, 1, 2, 1, 1], Err(BadShape)),
+        (&[1, 1, 1, 1, 1], Err(BadVoucher)),
+        (&[1, 1], Err(BadVoucher)),
     ];
     each_voucher(&rt, &example(), &[link(U, W, 0), link(W, U, -1)], &table)
 }
@@ -47,14 +48,24 @@ fn limits(rt: HostRuntime) -> Result<(), Fail> {
         &rt,
         &example(),
         &[
-            ("64 rows by the chain", &rows[0..64], &[1, 0], 0),
-            ("65 rows", &rows, &[1, 0], 1),
-            ("65 rows, no voucher", &rows, &[], 1),
-            ("65 rows, no such judge", &rows, &[7], 1),
-            ("33 rows by the sum", &rows[0..33], &[0], 1),
-            ("33 rows, no such judge", &rows[0..33], &[2], 2),
-            ("17 rows by the residue", &rows[0..17], &[1, 1], 1),
-            ("a remainder", &[equation(2, 0, -1)], &[1, 1, 2, 1], 0),
+            ("64 rows by the chain", &rows[0..64], &[1, 0], Ok(())),
+            ("65 rows", &rows, &[1, 0], Err(TooManyRows)),
+            ("65 rows, no voucher", &rows, &[], Err(TooManyRows)),
+            ("65 rows, no such judge", &rows, &[7], Err(TooManyRows)),
+            ("33 rows by the sum", &rows[0..33], &[0], Err(TooManyRows)),
+            (
+                "33 rows, no such judge",
+                &rows[0..33],
+                &[2],
+                Err(BadVoucher),
+            ),
+            (
+                "17 rows by the residue",
+                &rows[0..17],
+                &[1, 1],
+                Err(TooManyRows),
+            ),
+            ("a remainder", &[equation(2, 0, -1)], &[1, 1, 2, 1], Ok(())),
         ],
     )
 }
@@ -74,10 +85,10 @@ fn outside_judges(rt: HostRuntime) -> Result<(), Fail> {
         &rt,
         &judge,
         &[
-            ("never", &[five, six], &[0], 5),
-            ("they clash", &[five, six], &[1, 0], 0),
-            ("they do not", &[five, five], &[1, 0], 5),
-            ("the sum", &[five, six], &[1, 1, 1, 1], 4),
+            ("never", &[five, six], &[0], Err(NoConflict)),
+            ("they clash", &[five, six], &[1, 0], Ok(())),
+            ("they do not", &[five, five], &[1, 0], Err(NoConflict)),
+            ("the sum", &[five, six], &[1, 1, 1, 1], Err(UnknownsLeft)),
         ],
     )
 }

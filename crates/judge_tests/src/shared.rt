@@ -100,13 +100,7 @@ pub fn equation(a: i32, b: i32, constant: i64) -> Row {
     )
 }
 
-// 0 for yes, else the cause's number.
-pub fn number(answer: Result<(), JudgeCause>) -> u32 {
-    match answer {
-        Ok(()) => 0,
-        Err(cause) => cause.number(),
-    }
-}
+pub type Answer = Result<(), JudgeCause>;
 
 // The judge itself and the call that stands before every judge answer alike.
 pub fn answers<J: Judge>(
@@ -115,11 +109,11 @@ pub fn answers<J: Judge>(
     judge: &J,
     rows: &[Row],
     voucher: &[i32],
-    expected: u32,
+    expected: Answer,
 ) -> Result<(), Fail> {
-    assert_eq!(rt; number(judge.judge(rows, voucher)), expected, "{name}");
+    assert_eq!(rt; judge.judge(rows, voucher), expected, "{name}");
     assert_eq!(rt;
-        number(referee(judge, rows, voucher)),
+        referee(judge, rows, voucher),
         expected,
         "{name}, by the referee"
     );
@@ -127,7 +121,7 @@ pub fn answers<J: Judge>(
 }
 
 // What is asked, by name: rows, a voucher, and what is answered.
-pub type Case<'a> = (&'static str, &'a [Row], &'a [i32], u32);
+pub type Case<'a> = (&'static str, &'a [Row], &'a [i32], Answer);
 
 pub fn each<J: Judge>(rt: &impl Abort, judge: &J, table: &[Case]) -> Result<(), Fail> {
     for (name, rows, voucher, expected) in table {
@@ -141,7 +135,7 @@ pub fn each_voucher<J: Judge>(
     rt: &impl Abort,
     judge: &J,
     rows: &[Row],
-    table: &[(&'static [i32], u32)],
+    table: &[(&'static [i32], Answer)],
 ) -> Result<(), Fail> {
     for (voucher, expected) in table {
         answers(

@@ -1,25 +1,26 @@
 // The judge Sum.
 use crate::shared::*;
 use judges::Sum;
+use rows::JudgeCause::{BadVoucher, NoConflict, TooManyRows, UnknownsLeft};
 use rows::{Relation, Row};
 use std::test::Fail;
 
 #[test]
 fn vouchers(rt: HostRuntime) -> Result<(), Fail> {
-    let table: [(&'static [i32], u32); 13] = [
-        (&[1, 1], 0),
-        (&[7, 7], 0),
-        (&[1_048_576, 1_048_576], 0),
-        (&[1_048_577, 1], 2),
-        (&[1, 1_048_577], 2),
-        (&[1, -1], 2),
-        (&[], 2),
-        (&[1], 2),
-        (&[1, 1, 1], 2),
-        (&[1, 0], 4),
-        (&[2, 1], 4),
-        (&[0, 1], 4),
-        (&[0, 0], 5),
+    let table: [(&'static [i32], Answer); 13] = [
+        (&[1, 1], Ok(())),
+        (&[7, 7], Ok(())),
+        (&[1_048_576, 1_048_576], Ok(())),
+        (&[1_048_577, 1], Err(BadVoucher)),
+        (&[1, 1_048_577], Err(BadVoucher)),
+        (&[1, -1], Err(BadVoucher)),
+        (&[], Err(BadVoucher)),
+        (&[1], Err(BadVoucher)),
+        (&[1, 1, 1], Err(BadVoucher)),
+        (&[1, 0], Err(UnknownsLeft)),
+        (&[2, 1], Err(UnknownsLeft)),
+        (&[0, 1], Err(UnknownsLeft)),
+        (&[0, 0], Err(NoConflict)),
     ];
     each_voucher(&rt, &Sum, &[link(U, W, 0), link(W, U, -1)], &table)
 }
@@ -33,17 +34,32 @@ fn limits(rt: HostRuntime) -> Result<(), Fail> {
         &rt,
         &Sum,
         &[
-            ("no rows", &[], &[], 5),
-            ("32 rows", &low[0..32], &ones[0..32], 0),
-            ("33 rows", &low, &ones, 1),
-            ("33 rows, unknowns left", &left, &ones, 1),
-            ("33 rows, no voucher", &low, &[], 1),
-            ("constant -1", &[bare(-1)], &[1], 0),
-            ("constant 0", &[bare(0)], &[1], 5),
-            ("constants -2 and 1", &[bare(-2), bare(1)], &[1, 1], 0),
-            ("constants -1 and 1", &[bare(-1), bare(1)], &[1, 1], 5),
-            ("unknowns left, constant 0", &left[0..1], &[1], 4),
-            ("negative number, unknowns left", &left[0..1], &[-1], 2),
+            ("no rows", &[], &[], Err(NoConflict)),
+            ("32 rows", &low[0..32], &ones[0..32], Ok(())),
+            ("33 rows", &low, &ones, Err(TooManyRows)),
+            ("33 rows, unknowns left", &left, &ones, Err(TooManyRows)),
+            ("33 rows, no voucher", &low, &[], Err(TooManyRows)),
+            ("constant -1", &[bare(-1)], &[1], Ok(())),
+            ("constant 0", &[bare(0)], &[1], Err(NoConflict)),
+            ("constants -2 and 1", &[bare(-2), bare(1)], &[1, 1], Ok(())),
+            (
+                "constants -1 and 1",
+                &[bare(-1), bare(1)],
+                &[1, 1],
+                Err(NoConflict),
+            ),
+            (
+                "unknowns left, constant 0",
+                &left[0..1],
+                &[1],
+                Err(UnknownsLeft),
+            ),
+            (
+                "negative number, unknowns left",
+                &left[0..1],
+                &[-1],
+                Err(BadVoucher),
+            ),
         ],
     )
 }
@@ -60,10 +76,15 @@ fn several_terms(rt: HostRuntime) -> Result<(), Fail> {
         &rt,
         &Sum,
         &[
-            ("one unknown three times", &[thrice], &[1], 0),
-            ("two attributes of one line", &[attributes], &[1], 4),
-            ("terms of 0", &[nothing], &[1], 0),
-            ("an equation", &[five, four], &[1, 1], 0),
+            ("one unknown three times", &[thrice], &[1], Ok(())),
+            (
+                "two attributes of one line",
+                &[attributes],
+                &[1],
+                Err(UnknownsLeft),
+            ),
+            ("terms of 0", &[nothing], &[1], Ok(())),
+            ("an equation", &[five, four], &[1, 1], Ok(())),
         ],
     )
 }
@@ -90,9 +111,19 @@ fn extremes(rt: HostRuntime) -> Result<(), Fail> {
         &rt,
         &Sum,
         &[
-            ("coefficients add up", &[eight; 32], &most, 4),
-            ("coefficients cancel", &[even; 32], &most, 0),
-            ("the largest constants", &[bare(i64::MAX); 32], &most, 5),
+            (
+                "coefficients add up",
+                &[eight; 32],
+                &most,
+                Err(UnknownsLeft),
+            ),
+            ("coefficients cancel", &[even; 32], &most, Ok(())),
+            (
+                "the largest constants",
+                &[bare(i64::MAX); 32],
+                &most,
+                Err(NoConflict),
+            ),
         ],
     )
 }
@@ -108,6 +139,13 @@ fn as_many_unknowns_as_there_can_be(rt: HostRuntime) -> Result<(), Fail> {
         }
         r.count = 8;
     }
-    answers(&rt, &"each taken once", &Sum, &rows, &[1; 32], 4)?;
-    answers(&rt, &"none taken", &Sum, &rows, &[0; 32], 5)
+    answers(
+        &rt,
+        &"each taken once",
+        &Sum,
+        &rows,
+        &[1; 32],
+        Err(UnknownsLeft),
+    )?;
+    answers(&rt, &"none taken", &Sum, &rows, &[0; 32], Err(NoConflict))
 }

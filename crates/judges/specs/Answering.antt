@@ -1,11 +1,11 @@
 -- The answer by tests is the answer by conditions, where each test decides its condition.
 use Rattle.std.specs.Prelude.{◌≡◌, ◌<◌, Bool, true, false, T, is_ok, Ok, Err, Decides, refl}
-use Rattle.std.proofs.Common.{sym, ap, subst, ◌∙◌, arith}
+use Rattle.std.proofs.Common.{arith}
 use Rattle.std.proofs.lemmas.Bool.{both_ways}
 use Rattle.rows.specs.Causes.{judge_cause_number}
 use Rattle.rows.specs.declared.cause.JudgeCause.{JudgeCause}
 use Rattle.rows.specs.declared.cause.JudgeCause.TheVariants.{TooManyRows, BadVoucher, BadShape, UnknownsLeft, NoConflict}
-use Rattle.judges.specs.Judging.{Answer, Judged, tried, answer_of, Caused}
+use Rattle.judges.specs.Judging.{Answer, Judged, tried, answer_of}
 
 fails : (P : Type 0) → Decides false P → P → ⊥
 fails P d p = both_ways false refl (d.1 p)
@@ -51,41 +51,10 @@ module _ (asks : JudgeCause → Type 0) where
   all_asked (Ok x) h k = h
   all_asked (Err e) h k = elim k [ ]
 
--- an answer that is fixed has the cause that it has
-caused : (r : Answer) → Caused (λ e. r ≡ Err e) r
-caused (Ok x) = tt
-caused (Err e) = refl
-
--- what is answered, by what the tests found in turn
-module _ (passes : JudgeCause → Bool) where
-  pub answer_many : passes TooManyRows ≡ false → Err TooManyRows ≡ answer_of passes
-  answer_many a = sym (λ j. tried (a j) TooManyRows (tried (passes BadVoucher) BadVoucher (tried (passes BadShape) BadShape (tried (passes UnknownsLeft) UnknownsLeft (tried (passes NoConflict) NoConflict (Ok tt))))))
-
-  module _ (a : passes TooManyRows ≡ true) where
-    pub answer_voucher : passes BadVoucher ≡ false → Err BadVoucher ≡ answer_of passes
-    answer_voucher b = sym (λ j. tried (a j) TooManyRows (tried (b j) BadVoucher (tried (passes BadShape) BadShape (tried (passes UnknownsLeft) UnknownsLeft (tried (passes NoConflict) NoConflict (Ok tt))))))
-
-    module _ (b : passes BadVoucher ≡ true) where
-      pub answer_shape : passes BadShape ≡ false → Err BadShape ≡ answer_of passes
-      answer_shape c = sym (λ j. tried (a j) TooManyRows (tried (b j) BadVoucher (tried (c j) BadShape (tried (passes UnknownsLeft) UnknownsLeft (tried (passes NoConflict) NoConflict (Ok tt))))))
-
-      -- the last two causes, by what the code found
-      pub answer_last : passes BadShape ≡ true → (gone conflict : Bool) → gone ≡ passes UnknownsLeft → conflict ≡ passes NoConflict → (r : Answer) → r ≡ tried gone UnknownsLeft (tried conflict NoConflict (Ok tt)) → r ≡ answer_of passes
-      answer_last c gone conflict d e r h =
-          let p = sym a in
-          let q = sym b in
-          let s = sym c in
-          h ∙ (λ j. tried (p j) TooManyRows (tried (q j) BadVoucher (tried (s j) BadShape (tried (d j) UnknownsLeft (tried (e j) NoConflict (Ok tt))))))
-
--- what a named judge promises of its answer r
+-- what a named judge promises of its answer
 module _ (asks : JudgeCause → Type 0) (passes : JudgeCause → Bool) (d : (e : JudgeCause) → Decides (passes e) (asks e)) where
-  pub fixed : (r : Answer) → r ≡ answer_of passes → (is_ok r ≡ is_ok (answer_of passes)) × Caused (λ e. answer_of passes ≡ Err e) r × (r ≡ answer_of passes) × Judged asks r
-  fixed r is = (
-    ap is_ok is,
-    subst (Caused (λ e. answer_of passes ≡ Err e)) (sym is) (caused (answer_of passes)),
-    is,
-    subst (Judged asks) (sym is) (judged asks passes d),
-  )
+  pub by_rule : (r : Answer) → r ≡ answer_of passes → Judged asks r
+  by_rule r is = rw is (judged asks passes d)
 
   -- what it admits, by its conditions
   pub asked : T (is_ok (answer_of passes)) → (e : JudgeCause) → asks e

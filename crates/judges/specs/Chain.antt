@@ -1,6 +1,7 @@
 -- The judge Chain: differences in a ring, whose constants add up to a negative one.
-use Rattle.std.specs.Prelude.{◌≡◌, ℕ, ◌≤◌, Bool, true, false, cond, ◌&&◌, ◌||◌, ◌⊎◌, List, [], ◌∷◌, length, ℤ, pos, negsuc, ◌+ℤ◌, ◌≤ℤ◌, ◌==◌, int_le, nat_le, slice_index_or}
-use Rattle.std.specs.List.{AllByRecursion}
+use Rattle.std.specs.Prelude.{◌≡◌, ℕ, ◌≤◌, Bool, true, false, ◌&&◌, ◌||◌, ◌⊎◌, List, [], ◌∷◌, length, ℤ, pos, negsuc, ◌+ℤ◌, ◌≤ℤ◌, ◌==◌, int_le, nat_le, slice_index_or}
+use Rattle.std.specs.List.{AllByRecursion, find, list_all}
+use Rattle.std.specs.Option.{option_map, unwrap_or}
 use Rattle.rows.specs.Making.{no_term}
 use Rattle.rows.specs.Meaning.{terms_of}
 use Rattle.rows.specs.declared.cause.JudgeCause.{JudgeCause}
@@ -16,10 +17,9 @@ use Rattle.judges.specs.Unknowns.{same_unknown, same_number, no_unknown}
 abbrev pub chain_rows : ℕ
 chain_rows = 64
 
--- the unknown of the first term with this coefficient
+-- the unknown of the first term with this coefficient; `no_unknown` where there is none
 abbrev pub unknown_with_lem : ℤ → List Term → Unknown
-unknown_with_lem c [] = no_unknown
-unknown_with_lem c (t ∷ ts) = cond (same_number t.coefficient c) t.unknown (unknown_with_lem c ts)
+unknown_with_lem c ts = unwrap_or (option_map (λ t. t.unknown) (find (λ t. same_number t.coefficient c) ts)) no_unknown
 
 -- the unknown with 1, and the one with -1
 abbrev pub plus_of : Row → Unknown
@@ -47,8 +47,7 @@ is_difference row =
     is_at_least row.relation && (length (terms_of row) == 2 && are_opposed_lem (slice_index_or (terms_of row) 0 no_term).coefficient (slice_index_or (terms_of row) 1 no_term).coefficient)
 
 abbrev pub all_differences : List Row → Bool
-all_differences [] = true
-all_differences (r ∷ rs) = is_difference r && all_differences rs
+all_differences rows = list_all is_difference rows
 
 -- the unknown with 1 of the first of these rows; where there is none, `home`
 abbrev pub next_plus : Unknown → List Row → Unknown

@@ -1,6 +1,6 @@
 -- The sum of rows, each times its number.
-use Rattle.std.specs.Prelude.{◌≡◌, ℕ, Bool, true, cond, ◌&&◌, List, [], ◌∷◌, length, ℤ, pos, ◌+ℤ◌, ◌*ℤ◌, ◌≤ℤ◌, ◌==◌, int_le, unsigned_abs}
-use Rattle.std.specs.List.{AllByRecursion}
+use Rattle.std.specs.Prelude.{◌≡◌, ℕ, Bool, cond, ◌&&◌, List, [], ◌∷◌, length, ℤ, pos, ◌+ℤ◌, ◌*ℤ◌, ◌≤ℤ◌, ◌==◌, int_le, unsigned_abs}
+use Rattle.std.specs.List.{AllByRecursion, list_all}
 use Rattle.rows.specs.Meaning.{terms_of}
 use Rattle.rows.specs.declared.row.Unknown.{Unknown}
 use Rattle.rows.specs.declared.row.Term.{Term}
@@ -26,12 +26,10 @@ constant_of (r ∷ rs) (n ∷ ns) = (n *ℤ r.constant) +ℤ constant_of rs ns
 
 -- a test passes each unknown that occurs
 abbrev pub each_term : (Unknown → Bool) → List Term → Bool
-each_term p [] = true
-each_term p (t ∷ ts) = p t.unknown && each_term p ts
+each_term p ts = list_all (λ t. p t.unknown) ts
 
 abbrev pub each_unknown : (Unknown → Bool) → List Row → Bool
-each_unknown p [] = true
-each_unknown p (r ∷ rs) = each_term p (terms_of r) && each_unknown p rs
+each_unknown p rows = list_all (λ row. each_term p (terms_of row)) rows
 
 -- a test passes the coefficient of each unknown in the sum
 abbrev pub each_coefficient : (ℤ → Bool) → List Row → List ℤ → Bool
@@ -51,8 +49,7 @@ abbrev pub between : ℤ → ℤ → ℤ → Bool
 between low high n = int_le low n && int_le n high
 
 abbrev pub all_between : ℤ → ℤ → List ℤ → Bool
-all_between low high [] = true
-all_between low high (n ∷ ns) = between low high n && all_between low high ns
+all_between low high ns = list_all (between low high) ns
 
 -- this many numbers of a voucher, each from `low` to the largest
 abbrev pub NumbersFit : ℤ → ℕ → List ℤ → Type 0

@@ -1,14 +1,14 @@
 -- Multiples of a whole number, and the test of them.
-use Rattle.std.specs.Prelude.{◌≡◌, ◌/◌, ◌%◌, ◌⊎◌, ℤ, pos, negsuc, ◌+ℤ◌, ◌*ℤ◌, neg_ℤ, Decides, nat_eq, unsigned_abs}
-use Rattle.std.proofs.Common.{sym, ap, ◌∙◌, inl, inr, ⊎_elim, arith, div-add-mod'}
+use Rattle.std.specs.Prelude.{◌≡◌, ◌%◌, ℤ, pos, negsuc, ◌+ℤ◌, ◌*ℤ◌, neg_ℤ, Decides, nat_eq, unsigned_abs}
+use Rattle.std.proofs.Common.{sym, ap, ◌∙◌, arith}
 use Rattle.std.proofs.Math.Nat.{mul-mod_left, mod-zero}
 use Rattle.std.proofs.Math.IntN.{zero-*ℤ, *ℤ_comm}
-use Rattle.std.proofs.lemmas.Int.{ints}
+use Rattle.std.specs.Int.RustNames.{int_div}
+use Rattle.std.proofs.lemmas.Int.{ints, unsigned_abs-mul, quot-rem}
 use Rattle.std.proofs.lemmas.Bool.{eqb-true, eq-eqb}
 use Rattle.judges.specs.Combination.{is_zero}
 use Rattle.judges.specs.Residue.{Divides, divides}
 use Rattle.judges.specs.Ring.{add_times, times_times}
-use Rattle.judges.specs.Sizes.{nat_abs_mul}
 
 neg_times : (x y : ℤ) → neg_ℤ x *ℤ y ≡ neg_ℤ (x *ℤ y)
 neg_times x y =
@@ -16,22 +16,14 @@ neg_times x y =
     let s = sym (add_times x (neg_ℤ x) y) ∙ ap (λ z. z *ℤ y) e ∙ zero-*ℤ y in
     omega (arith, ints)
 
-same_size : (x y : ℤ) → unsigned_abs x ≡ unsigned_abs y → (x ≡ y) ⊎ (x ≡ neg_ℤ y)
-same_size (pos a) (pos b) h = inl (ap pos h)
-same_size (pos a) (negsuc b) h = inr (ap pos h)
-same_size (negsuc a) (pos b) h = inr (omega (arith, ints))
-same_size (negsuc a) (negsuc b) h = inl (omega (arith, ints))
-
 divided : (m z : ℤ) → unsigned_abs z % unsigned_abs m ≡ 0 → Divides m z
-divided m z h =
-    let k = unsigned_abs z / unsigned_abs m in
-    let size : unsigned_abs z ≡ unsigned_abs (pos k *ℤ m) = let d = div-add-mod' (unsigned_abs z) (unsigned_abs m) in let n = nat_abs_mul (pos k) m in omega (arith, d, n, h) in
-    ⊎_elim (λ e. (pos k, e)) (λ e. (neg_ℤ (pos k), e ∙ sym (neg_times (pos k) m))) (same_size z (pos k *ℤ m) size)
+divided m (pos a) h = (int_div (pos a) m, (let q = quot-rem (pos a) m in omega (arith, ints, h)))
+divided m (negsuc a) h = (int_div (negsuc a) m, (let q = quot-rem (negsuc a) m in omega (arith, ints, h)))
 
 pub divides_decides : (m z : ℤ) → Decides (divides m z) (Divides m z)
 divides_decides m z = (
   λ h. divided m z (eqb-true (unsigned_abs z % unsigned_abs m) 0 h),
-  λ d. eq-eqb (unsigned_abs z % unsigned_abs m) 0 (ap (λ n. n % unsigned_abs m) (ap unsigned_abs d.1 ∙ nat_abs_mul d.0 m) ∙ mul-mod_left (unsigned_abs d.0) (unsigned_abs m)),
+  λ d. eq-eqb (unsigned_abs z % unsigned_abs m) 0 (ap (λ n. n % unsigned_abs m) (ap unsigned_abs d.1 ∙ unsigned_abs-mul d.0 m) ∙ mul-mod_left (unsigned_abs d.0) (unsigned_abs m)),
 )
 
 -- 0 divides 0 alone

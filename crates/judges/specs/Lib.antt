@@ -15,5 +15,4 @@ pub mod Numbers
 pub mod Picks
 pub mod ResidueLaw
 pub mod Division
-pub mod Sizes
 pub mod SumLaw

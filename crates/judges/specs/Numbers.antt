@@ -1,13 +1,12 @@
 -- The numbers of a voucher, and tests of whole numbers.
-use Rattle.std.specs.Prelude.{◌≡◌, ℕ, zero, suc, ◌≤◌, true, List, [], ◌∷◌, length, ℤ, pos, neg_ℤ, ◌≤ℤ◌, Decides, int_le, nat_le, unsigned_abs, refl}
+use Rattle.std.specs.Prelude.{◌≡◌, ℕ, ◌≤◌, List, length, ℤ, pos, ◌≤ℤ◌, Decides, int_le, nat_le, refl}
 use Rattle.std.proofs.Common.{arith}
 use Rattle.std.proofs.lemmas.Int.{ints}
-use Rattle.std.proofs.lemmas.Bool.{and_parts, leb-true, le-leb}
+use Rattle.std.proofs.lemmas.Bool.{leb-true, le-leb}
 use Rattle.std.proofs.lemmas.Bool.Decides.{Decides-eqb, Decides-and}
 use Rattle.std.proofs.ByRecursion.{Decides-by_and}
 use Rattle.judges.specs.Unknowns.{same_number}
 use Rattle.judges.specs.Combination.{largest_number, Between, between, all_between, NumbersFit, numbers_fit}
-use Rattle.judges.specs.Gather.{Small}
 
 pub leb_decides : (a b : ℕ) → Decides (nat_le a b) (a ≤ b)
 leb_decides a b = (leb-true a b, le-leb a b)
@@ -25,16 +24,3 @@ pub numbers_decide : (low : ℤ) (count : ℕ) (ns : List ℤ) → Decides (numb
 numbers_decide low count ns =
     Decides-and _ _ (Decides-eqb (length ns) count)
     (Decides-by_and (between low (pos largest_number)) (Between low (pos largest_number)) (all_between low (pos largest_number)) (between_decides low (pos largest_number)) refl (λ _ _. refl) ns)
-
--- numbers that are between are small
-module _ (low : ℤ) (above : neg_ℤ (pos largest_number) ≤ℤ low) where
-  one_small : (n : ℤ) → between low (pos largest_number) n ≡ true → unsigned_abs n ≤ largest_number
-  one_small n h = let b = (between_decides low (pos largest_number) n).0 h in let l = b.0 in let g = b.1 in omega (arith, ints)
-
-  pub all_small : (ns : List ℤ) → all_between low (pos largest_number) ns ≡ true → Small ns
-  all_small [] h k = omega arith
-  all_small (n ∷ ns) h zero = one_small n (and_parts (between low (pos largest_number) n) (all_between low (pos largest_number) ns) h).0
-  all_small (n ∷ ns) h (suc k) = all_small ns (and_parts (between low (pos largest_number) n) (all_between low (pos largest_number) ns) h).1 k
-
-  pub numbers_small : (count : ℕ) (ns : List ℤ) → numbers_fit low count ns ≡ true → (length ns ≡ count) × Small ns
-  numbers_small count ns h = let p = and_parts _ (all_between low (pos largest_number) ns) h in ((Decides-eqb (length ns) count).0 p.0, all_small ns p.1)

@@ -1,6 +1,6 @@
 -- The judge Residue: a modulus divides all coefficients of a sum of equations, and not its constant.
-use Rattle.std.specs.Prelude.{◌≡◌, ℕ, ◌%◌, ◌≤◌, Bool, true, false, not, ◌&&◌, List, [], ◌∷◌, length, drop, ℤ, pos, ◌*ℤ◌, neg_ℤ, ◌==◌, nat_le, slice_index_or, unsigned_abs}
-use Rattle.std.specs.List.{AllByRecursion}
+use Rattle.std.specs.Prelude.{◌≡◌, ℕ, ◌%◌, ◌≤◌, Bool, true, false, not, ◌&&◌, List, length, drop, ℤ, pos, ◌*ℤ◌, neg_ℤ, ◌==◌, nat_le, slice_index_or, unsigned_abs}
+use Rattle.std.specs.List.{AllByRecursion, list_all}
 use Rattle.rows.specs.declared.cause.JudgeCause.{JudgeCause}
 use Rattle.rows.specs.declared.cause.JudgeCause.TheVariants.{TooManyRows, BadVoucher, BadShape, UnknownsLeft, NoConflict}
 use Rattle.rows.specs.declared.row.Unknown.{Unknown}
@@ -32,8 +32,7 @@ is_equal AtLeast = false
 is_equal Equal = true
 
 abbrev pub all_equal : List Row → Bool
-all_equal [] = true
-all_equal (r ∷ rs) = is_equal r.relation && all_equal rs
+all_equal rows = list_all (λ row. is_equal row.relation) rows
 
 -- THE RULE, a condition for each cause
 abbrev pub residue_asks : List Row → List ℤ → JudgeCause → Type 0

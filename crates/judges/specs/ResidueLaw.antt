@@ -1,6 +1,6 @@
 -- The judge Residue: its tests decide its conditions, and its law.
-use Rattle.std.specs.Prelude.{◌≡◌, ◌-◌, ◌<◌, ◌≤◌, true, T, List, [], ◌∷◌, length, take, drop, ℤ, pos, ◌+ℤ◌, ◌*ℤ◌, neg_ℤ, is_ok, Decides, slice_index_or, refl}
-use Rattle.std.proofs.Common.{sym, ap, subst, ◌∙◌, arith, take_all}
+use Rattle.std.specs.Prelude.{◌≡◌, ◌≤◌, true, T, List, [], ◌∷◌, length, ℤ, pos, ◌+ℤ◌, ◌*ℤ◌, neg_ℤ, is_ok, Decides, refl}
+use Rattle.std.proofs.Common.{sym, ap, subst, ◌∙◌, arith}
 use Rattle.std.proofs.Math.IntN.{*ℤ-zero}
 use Rattle.std.proofs.lemmas.Int.{ints}
 use Rattle.std.proofs.lemmas.Bool.{and_parts}
@@ -47,8 +47,8 @@ residue_decides rows voucher NoConflict =
     Decides-not (divides (modulus_of voucher) (constant_of rows (numbers_of voucher))) (divides_decides (modulus_of voucher) (constant_of rows (numbers_of voucher)))
 
 -- the code's test of the totals
-pub totals_divided : (m : ℤ) (table : List Total) (rows : List Row) (ns : List ℤ) → table ≡ gathered [] rows ns → each_total (divides m) table ≡ each_coefficient (divides m) rows ns
-totals_divided m table rows ns t = ap (each_total (divides m)) t ∙ totals_are (divides m) (zero_passes m) rows ns
+pub totals_divided : (m : ℤ) (rows : List Row) (ns : List ℤ) → each_total (divides m) (gathered [] rows ns) ≡ each_coefficient (divides m) rows ns
+totals_divided m = totals_are (divides m) (zero_passes m)
 
 divided_worth : (m : ℤ) (v : Valuation) (es : List Total) → each_total (divides m) es ≡ true → Divides m (worth v es)
 divided_worth m v [] h = divides_zero m
@@ -83,12 +83,3 @@ module _ (rows : List Row) (voucher : List ℤ) (h : T (is_ok (residue_answer ro
       let totals = (totals_decide (divides m) (zero_passes m) rows ns).1 (λ u. (divides_decides m (coefficient_of u rows ns)).1 (holds UnknownsLeft u)) in
       let divided : Divides m (weighted v rows ns) = subst (Divides m) (sym (weighted_is v rows ns)) (divided_worth m v (gathered [] rows ns) totals) in
       holds NoConflict (divides_rest m (weighted v rows ns) (constant_of rows ns) (adds_up v rows ns (holds BadShape) all) divided)
-
--- a voucher that has a first number
-pub parted : (voucher : List ℤ) → 0 < length voucher → slice_index_or voucher 0 (pos 0) ∷ take (length voucher - 1) (drop 1 voucher) ≡ voucher
-parted [] l = absurd (omega arith)
-parted (n ∷ ns) l = ap (λ (rest : List ℤ). n ∷ rest) (take_all (length (n ∷ ns) - 1) ns (omega arith))
-
-pub no_voucher : (voucher : List ℤ) → length voucher < 1 → voucher ≡ []
-no_voucher [] l = refl
-no_voucher (n ∷ ns) l = absurd (omega arith)

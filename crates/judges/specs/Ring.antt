@@ -51,6 +51,4 @@ times_times (negsuc zero) b k = assoc_pred (pos zero) b k (zero_times_times b k)
 times_times (negsuc (suc n)) b k = assoc_pred (negsuc n) b k (times_times (negsuc n) b k)
 
 pub times_not_below : (a b : ℤ) → pos 0 ≤ℤ a → pos 0 ≤ℤ b → pos 0 ≤ℤ (a *ℤ b)
-times_not_below (pos m) (pos n) h k = omega (arith, ints)
-times_not_below (pos m) (negsuc n) h k = absurd (omega (arith, ints))
-times_not_below (negsuc m) b h k = absurd (omega (arith, ints))
+times_not_below a b h k = grind (arith, ints)

@@ -38,8 +38,8 @@ sum_decides rows voucher UnknownsLeft =
 sum_decides rows voucher NoConflict = le_z_decides (constant_of rows voucher) (negsuc 0)
 
 -- the code's test of the totals, where 0 divides 0 alone
-pub totals_vanish : (table : List Total) (rows : List Row) (voucher : List ℤ) → table ≡ gathered [] rows voucher → each_total (divides (pos 0)) table ≡ sum_passes rows voucher UnknownsLeft
-totals_vanish table rows voucher t = (λ j. each_total (λ z. by_zero z j) (t j)) ∙ totals_are is_zero refl rows voucher
+pub totals_vanish : (rows : List Row) (voucher : List ℤ) → each_total (divides (pos 0)) (gathered [] rows voucher) ≡ each_coefficient is_zero rows voucher
+totals_vanish rows voucher = (λ j. each_total (λ z. by_zero z j) (gathered [] rows voucher)) ∙ totals_are is_zero refl rows voucher
 
 zeros_worth : (v : Valuation) (es : List Total) → each_total is_zero es ≡ true → worth v es ≡ pos 0
 zeros_worth v [] h = refl

@@ -9,11 +9,11 @@ use rows::{JudgeCause, Row};
 // Whether the judge admits the rows with this voucher: then no whole numbers satisfy them.
 pub fn referee<J: Judge>(judge: &J, rows: &[Row], voucher: &[i32]) -> Result<(), JudgeCause>
     ensures yes { is_ok result ≡ J.admits judge.now rows.now voucher.now }
-    ensures cause { Caused (Limited J.most (length rows.now) (J.gives judge.now rows.now voucher.now)) result }
+    ensures cause { Caused (Limited J.ROWS (length rows.now) (J.gives judge.now rows.now voucher.now)) result }
     ensures conflict { is_ok result ≡ true → Impossible rows.now }
-    ensures lawful { Lawful J.most (J.admits judge.now) }
+    ensures lawful { Lawful J.ROWS (J.admits judge.now) }
 {
-    if rows.len() > J::most_rows() {
+    if rows.len() > J::ROWS {
         return Err(JudgeCause::TooManyRows);
     }
     judge.judge(rows, voucher)

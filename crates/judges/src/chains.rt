@@ -6,19 +6,17 @@ ghost use Rattle.judges.specs.Chain.{chain_rows, unknown_with_lem, is_difference
 ghost use Rattle.judges.specs.ChainLaw.{chain_sound, chain_bounded};
 
 use crate::meaning::Judge;
-use crate::unknowns::{LARGEST_CONFLICT, last_cause, same};
+use crate::shared::{LARGEST_CONFLICT, last_cause};
 use rows::{JudgeCause, Relation, Row, Unknown};
-
-const MOST_ROWS: usize = 64;
 
 // The voucher is empty.
 #[derive(Clone, Copy)]
 pub struct Chain;
 
 impl Judge for Chain {
-    const ROWS: usize = MOST_ROWS;
+    const ROWS: usize = 64;
 
-    ghost most = { chain_rows };
+    ghost ROWS = { chain_rows };
 
     ghost admits = { λ _ rows voucher. is_ok (chain_answer rows voucher) };
 
@@ -27,10 +25,6 @@ impl Judge for Chain {
     ghost sound = { λ s. chain_sound };
 
     ghost bounded = { λ s. chain_bounded };
-
-    fn most_rows() -> usize {
-        Self::ROWS
-    }
 
     fn judge(&self, rows: &[Row], voucher: &[i32]) -> Result<(), JudgeCause>
         ensures yes { is_ok result ≡ is_ok (chain_answer rows.now voucher.now) }
@@ -46,7 +40,7 @@ impl Judge for Chain {
 fn go_round(rows: &[Row], voucher: &[i32]) -> Result<(), JudgeCause>
     ensures { result ≡ chain_answer rows.now voucher.now }
 {
-    if rows.len() > MOST_ROWS {
+    if rows.len() > Chain::ROWS {
         return Err(JudgeCause::TooManyRows);
     }
     if !voucher.is_empty() {
@@ -58,27 +52,24 @@ fn go_round(rows: &[Row], voucher: &[i32]) -> Result<(), JudgeCause>
     last_cause(is_ring(rows), sum_constants(rows) <= LARGEST_CONFLICT)
 }
 
-// The unknown of the first term with this coefficient.
+// The unknown of the first term with this coefficient; the default where there is none.
 fn unknown_with(row: &Row, coefficient: i32) -> Unknown
     ensures { result ≡ unknown_with_lem coefficient (terms_of row.now) }
 {
-    for term in row.terms() {
-        if term.coefficient == coefficient {
-            return term.unknown;
-        }
-    }
-    Unknown {
-        object: 0,
-        attribute: 0,
-    }
+    row.terms()
+        .iter()
+        .find(|term| term.coefficient == coefficient)
+        .map(|term| term.unknown)
+        .unwrap_or_default()
 }
 
 fn is_link(row: &Row) -> bool
     ensures { result ≡ is_difference row.now }
 {
-    match (row.relation, row.terms()) {
-        (Relation::AtLeast, [a, b]) => {
-            a.coefficient == 1 && b.coefficient == -1 || a.coefficient == -1 && b.coefficient == 1
+    match row.terms() {
+        [a, b] => {
+            row.relation == Relation::AtLeast
+                && matches!((a.coefficient, b.coefficient), (1, -1) | (-1, 1))
         }
         _ => false,
     }
@@ -87,25 +78,16 @@ fn is_link(row: &Row) -> bool
 fn are_links(rows: &[Row]) -> bool
     ensures { result ≡ all_differences rows.now }
 {
-    for row in rows {
-        if !is_link(row) {
-            return false;
-        }
-    }
-    true
+    rows.iter().all(is_link)
 }
 
 // Each row leads to the next one, and the last one to the first.
 fn is_ring(rows: &[Row]) -> bool
     ensures { result ≡ leads (home_of rows.now) rows.now }
 {
-    for i in 0..rows.len() {
-        let next = if i + 1 < rows.len() { i + 1 } else { 0 };
-        if !same(unknown_with(&rows[i], -1), unknown_with(&rows[next], 1)) {
-            return false;
-        }
-    }
-    true
+    rows.iter()
+        .zip(rows.iter().skip(1).chain(rows.iter().take(1)))
+        .all(|(row, next)| unknown_with(row, -1) == unknown_with(next, 1))
 }
 
 fn sum_constants(rows: &[Row]) -> i128

@@ -1,145 +1,99 @@
 // The sum of rows, each times its number: a total for each unknown, and a constant.
-ghost use Rattle.std.specs.Prelude.{◌≡◌, ℕ, ◌+◌, ◌^◌, ◌<◌, ◌≤◌, [], length, ◌*ℤ◌, unsigned_abs};
+ghost use Rattle.std.specs.Prelude.{◌≡◌, ◌+◌, ◌^◌, ◌<◌, ◌≤◌, [], length, ◌*ℤ◌, position, unsigned_abs};
+ghost use Rattle.arrayvec.specs.ArrayVec.{array_vec_len};
 ghost use Rattle.rows.specs.Meaning.{terms_of};
 ghost use Rattle.judges.specs.Combination.{largest_number, constant_of};
 ghost use Rattle.judges.specs.Residue.{divides as divides_test};
-ghost use Rattle.judges.specs.Gather.{most_combined, held, Within, Small, place_of, put, put_terms, gathered, each_total};
+ghost use Rattle.judges.specs.Unknowns.{same_unknown};
+ghost use Rattle.judges.specs.Gather.{most_combined, peak, Small, put, put_terms, gathered, each_total};
 
-use crate::unknowns::{divides, same};
+use crate::shared::divides;
+use arrayvec::ArrayVec;
 use rows::{Row, Unknown};
 
 // What an unknown comes to so far.
-#[derive(Clone, Copy)]
+#[derive(Clone, Copy, Default)]
 pub(crate) struct Total {
     unknown: Unknown,
-    total: i64,
+    total: i128,
 }
 
-// A total for each unknown so far: the first `count` entries. There is room for all terms of 32 rows.
-#[derive(Clone, Copy)]
-pub(crate) struct Table {
-    entries: [Total; 256],
-    count: usize,
-}
+// A total for each unknown so far. There is room for all terms of 32 rows.
+type Totals = ArrayVec<Total, 256>;
 
-fn weigh(number: i32, coefficient: i32) -> i64
+fn weigh(number: i32, value: i64) -> i128
     requires { unsigned_abs number ≤ largest_number }
-    ensures value { result ≡ number *ℤ coefficient }
-    ensures size { unsigned_abs result ≤ 2 ^ 51 }
-{
-    number as i64 * coefficient as i64
-}
-
-fn weigh_constant(number: i32, constant: i64) -> i128
-    requires { unsigned_abs number ≤ largest_number }
-    ensures value { result ≡ number *ℤ constant }
+    ensures value { result ≡ number *ℤ value }
     ensures size { unsigned_abs result ≤ 2 ^ 83 }
 {
-    number as i128 * constant as i128
+    i128::from(number) * i128::from(value)
 }
 
-// The place of an unknown in a table, or the table's length.
-fn place(entries: &[Total], unknown: Unknown) -> usize
-    ensures { result ≡ place_of entries.now unknown }
+fn place(totals: &[Total], unknown: Unknown) -> Option<usize>
+    ensures { result ≡ position (λ e. same_unknown e.unknown unknown) totals.now }
 {
-    for i in 0..entries.len() {
-        if same(entries[i].unknown, unknown) {
-            return i;
-        }
-    }
-    entries.len()
+    totals.iter().position(|entry| entry.unknown == unknown)
 }
 
-// Whether the modulus divides each total; 0 divides 0 alone.
-fn are_divided(entries: &[Total], modulus: i32) -> bool
-    ensures { result ≡ each_total (divides_test modulus) entries.now }
+fn add(totals: &mut Totals, unknown: Unknown, by: i128)
+    requires room { array_vec_len totals.old < 256 }
+    requires sizes { peak totals.old.items ≤ 2 ^ 100 }
+    requires size { unsigned_abs by ≤ 2 ^ 83 }
+    ensures table { totals.new.items ≡ put totals.old.items unknown by }
+    ensures count { array_vec_len totals.new ≤ array_vec_len totals.old + 1 }
+    ensures sizes { peak totals.new.items ≤ peak totals.old.items + 2 ^ 83 }
 {
-    for entry in entries {
-        if !divides(modulus, entry.total as i128) {
-            return false;
-        }
+    match place(totals, unknown) {
+        Some(i) => totals[i].total += by,
+        None => totals.push(Total { unknown, total: by }),
     }
-    true
 }
 
-impl Table {
-    fn empty() -> Table
-        ensures { result.count ≡ 0 }
-    {
-        let unknown = Unknown {
-            object: 0,
-            attribute: 0,
-        };
-        Table {
-            entries: [Total { unknown, total: 0 }; 256],
-            count: 0,
-        }
+fn add_terms(totals: &mut Totals, row: &Row, number: i32)
+    requires room { array_vec_len totals.old ≤ 248 }
+    requires sizes { peak totals.old.items ≤ 2 ^ 99 }
+    requires number { unsigned_abs number ≤ largest_number }
+    ensures table { totals.new.items ≡ put_terms totals.old.items number (terms_of row.now) }
+    ensures count { array_vec_len totals.new ≤ array_vec_len totals.old + 8 }
+    ensures sizes { peak totals.new.items ≤ peak totals.old.items + 2 ^ 86 }
+{
+    for term in row.terms() {
+        let by = weigh(number, i64::from(term.coefficient));
+        add(totals, term.unknown, by);
     }
+}
 
-    fn add(&mut self, unknown: Unknown, by: i64)
-        requires room { self.old.count < 256 }
-        requires sizes { Within (2 ^ 62) (held self.old) }
-        requires size { unsigned_abs by ≤ 2 ^ 51 }
-        ensures table { held self.new ≡ put (held self.old) unknown by }
-        ensures count { self.new.count ≤ self.old.count + 1 }
-    {
-        let i = place(&self.entries[..self.count], unknown);
-        if i < self.count {
-            self.entries[i].total += by;
-        } else {
-            self.entries[self.count] = Total { unknown, total: by };
-            self.count += 1;
-        }
-    }
+// The sum of rows, each times its number.
+#[derive(Drop)]
+pub(crate) struct Combination {
+    totals: Totals,
+    pub(crate) constant: i128,
+}
 
-    fn add_row(&mut self, row: &Row, number: i32)
-        requires room { self.old.count ≤ 248 }
-        requires sizes { Within (2 ^ 61) (held self.old) }
-        requires number { unsigned_abs number ≤ largest_number }
-        ensures table { held self.new ≡ put_terms (held self.old) number (terms_of row.now) }
-        ensures count { self.new.count ≤ self.old.count + 8 }
-        ensures sizes { (b : ℕ) → Within b (held self.old) → Within (b + 2 ^ 54) (held self.new) }
+impl Combination {
+    // Each term costs a look at the unknowns so far.
+    pub(crate) fn of(rows: &[Row], numbers: &[i32]) -> Combination
+        requires few { length rows.now ≤ most_combined }
+        requires each { length numbers.now ≡ length rows.now }
+        requires small { Small numbers.now }
+        ensures totals { result.totals.items ≡ gathered [] rows.now numbers.now }
+        ensures constant { result.constant ≡ constant_of rows.now numbers.now }
     {
-        let terms = row.terms();
-        for i in 0..terms.len() {
-            self.add(terms[i].unknown, weigh(number, terms[i].coefficient));
+        let mut totals = ArrayVec::new();
+        let mut constant = 0;
+        for (row, number) in rows.iter().zip(numbers) {
+            add_terms(&mut totals, row, *number);
+            constant += weigh(*number, row.constant);
         }
+        Combination { totals, constant }
     }
 
     // Whether the modulus divides each coefficient of the sum; 0 divides 0 alone.
     pub(crate) fn is_divided(&self, modulus: i32) -> bool
-        requires { self.now.count ≤ 256 }
-        ensures { result ≡ each_total (divides_test modulus) (held self.now) }
+        ensures { result ≡ each_total (divides_test modulus) self.now.totals.items }
     {
-        are_divided(&self.entries[..self.count], modulus)
+        self.totals
+            .iter()
+            .all(|entry| divides(modulus, entry.total))
     }
-}
-
-// The coefficients of the sum. Each term costs a look at the unknowns so far.
-pub(crate) fn gather(rows: &[Row], numbers: &[i32]) -> Table
-    requires few { length rows.now ≤ most_combined }
-    requires each { length numbers.now ≡ length rows.now }
-    requires small { Small numbers.now }
-    ensures table { held result ≡ gathered [] rows.now numbers.now }
-    ensures count { result.count ≤ 256 }
-{
-    let mut table = Table::empty();
-    for i in 0..rows.len() {
-        table.add_row(&rows[i], numbers[i]);
-    }
-    table
-}
-
-// The constant of the sum.
-pub(crate) fn total_constant(rows: &[Row], numbers: &[i32]) -> i128
-    requires few { length rows.now ≤ most_combined }
-    requires each { length numbers.now ≡ length rows.now }
-    requires small { Small numbers.now }
-    ensures { result ≡ constant_of rows.now numbers.now }
-{
-    let mut sum = 0i128;
-    for k in 0..rows.len() {
-        sum += weigh_constant(numbers[k], rows[k].constant);
-    }
-    sum
 }

@@ -7,8 +7,8 @@ mod combine;
 mod meaning;
 mod pairs;
 mod residues;
+mod shared;
 mod sums;
-mod unknowns;
 
 pub use asking::referee;
 pub use chains::Chain;

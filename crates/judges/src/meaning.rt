@@ -8,19 +8,16 @@ ghost use Rattle.judges.specs.Judging.{Caused};
 use rows::{JudgeCause, Row};
 
 pub trait Judge {
-    // The row limit. No clause can name it, so `most` and `most_rows` say it too.
+    // The row limit.
     const ROWS: usize;
 
-    ghost most: { ℕ };
+    ghost ROWS: { ℕ };
 
     // The meaning: the rows that are admitted, each list with its vouchers.
     ghost admits: { Self → List LinearRow → List ℤ → Bool };
 
     // The causes that a no may have. Where nothing is said, it is any of the five.
     ghost gives: { Self → List LinearRow → List ℤ → Reason → Type 0 } = { λ _ _ _ _. Unit {0} };
-
-    fn most_rows() -> usize
-        ensures { result ≡ most };
 
     fn judge(&self, rows: &[Row], voucher: &[i32]) -> Result<(), JudgeCause>
         ensures yes { is_ok result ≡ admits self.now rows.now voucher.now }
@@ -29,5 +26,5 @@ pub trait Judge {
     // No whole numbers satisfy rows that are admitted.
     ghost sound: { (s : Self) (rows : List LinearRow) (voucher : List ℤ) → T (admits s rows voucher) → Impossible rows };
 
-    ghost bounded: { (s : Self) (rows : List LinearRow) (voucher : List ℤ) → T (admits s rows voucher) → length rows ≤ most };
+    ghost bounded: { (s : Self) (rows : List LinearRow) (voucher : List ℤ) → T (admits s rows voucher) → length rows ≤ ROWS };
 }

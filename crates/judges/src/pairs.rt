@@ -9,8 +9,6 @@ ghost use Rattle.std.proofs.Common.{rules};
 use crate::meaning::Judge;
 use rows::{JudgeCause, Row};
 
-const MOST_ROWS: usize = 64;
-
 #[derive(Clone, Copy)]
 pub struct Pair<F, S> {
     pub first: F,
@@ -18,9 +16,9 @@ pub struct Pair<F, S> {
 }
 
 impl<F: Judge, S: Judge> Judge for Pair<F, S> {
-    const ROWS: usize = MOST_ROWS;
+    const ROWS: usize = 64;
 
-    ghost most = { pair_rows };
+    ghost ROWS = { pair_rows };
 
     ghost admits = { λ p rows voucher. pair_admits (F.Judge.admits p.first) (S.Judge.admits p.second) rows voucher };
 
@@ -30,16 +28,13 @@ impl<F: Judge, S: Judge> Judge for Pair<F, S> {
 
     ghost bounded = { Prim.search rules };
 
-    fn most_rows() -> usize {
-        MOST_ROWS
-    }
-
+    #[tactic(auto, using(crate::proofs::Nesting::nested_fixed))]
     fn judge(&self, rows: &[Row], voucher: &[i32]) -> Result<(), JudgeCause>
         ensures yes { is_ok result ≡ pair_admits (F.Judge.admits self.now.first) (S.Judge.admits self.now.second) rows.now voucher.now }
         ensures cause { Caused (pair_gives (F.Judge.gives self.now.first) (S.Judge.gives self.now.second) rows.now voucher.now) result }
         ensures nested { NestedFixed }
     {
-        if rows.len() > MOST_ROWS {
+        if rows.len() > Self::ROWS {
             return Err(JudgeCause::TooManyRows);
         }
         let [pick, rest @ ..] = voucher else {

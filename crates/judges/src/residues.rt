@@ -1,25 +1,23 @@
 // Equations whose sum leaves a remainder.
 ghost use Rattle.std.specs.Prelude.{◌≡◌, ◌≤◌, ◌∷◌, length, is_ok, Err};
 ghost use Rattle.judges.specs.Judging.{Caused, Judged};
-ghost use Rattle.judges.specs.Residue.{residue_rows, is_equal, all_equal, residue_asks, residue_passes, residue_answer};
+ghost use Rattle.judges.specs.Residue.{residue_rows, all_equal, residue_asks, residue_passes, residue_answer};
 ghost use Rattle.rows.specs.declared.cause.JudgeCause.TheVariants.{BadVoucher};
 ghost use Rattle.judges.specs.ResidueLaw.{residue_sound, residue_bounded};
 
-use crate::combine::{gather, total_constant};
+use crate::combine::Combination;
 use crate::meaning::Judge;
-use crate::unknowns::{LARGEST_NUMBER, divides, is_between, last_cause, numbers_fit};
+use crate::shared::{LARGEST_NUMBER, divides, last_cause, numbers_fit};
 use rows::{JudgeCause, Relation, Row};
-
-const MOST_ROWS: usize = 16;
 
 // The voucher has a modulus, from 2 to 1,048,576, and then one number a row, within ±1,048,576.
 #[derive(Clone, Copy)]
 pub struct Residue;
 
 impl Judge for Residue {
-    const ROWS: usize = MOST_ROWS;
+    const ROWS: usize = 16;
 
-    ghost most = { residue_rows };
+    ghost ROWS = { residue_rows };
 
     ghost admits = { λ _ rows voucher. is_ok (residue_answer rows voucher) };
 
@@ -28,10 +26,6 @@ impl Judge for Residue {
     ghost sound = { λ s. residue_sound };
 
     ghost bounded = { λ s. residue_bounded };
-
-    fn most_rows() -> usize {
-        Self::ROWS
-    }
 
     fn judge(&self, rows: &[Row], voucher: &[i32]) -> Result<(), JudgeCause>
         ensures yes { is_ok result ≡ is_ok (residue_answer rows.now voucher.now) }
@@ -43,31 +37,17 @@ impl Judge for Residue {
     }
 }
 
-fn is_equation(row: &Row) -> bool
-    ensures { result ≡ is_equal row.now.relation }
-{
-    match row.relation {
-        Relation::AtLeast => false,
-        Relation::Equal => true,
-    }
-}
-
 fn are_equations(rows: &[Row]) -> bool
     ensures { result ≡ all_equal rows.now }
 {
-    for row in rows {
-        if !is_equation(row) {
-            return false;
-        }
-    }
-    true
+    rows.iter().all(|row| row.relation == Relation::Equal)
 }
 
 // The judge's answer.
 fn leave_remainder(rows: &[Row], voucher: &[i32]) -> Result<(), JudgeCause>
     ensures { result ≡ residue_answer rows.now voucher.now }
 {
-    if rows.len() > MOST_ROWS {
+    if rows.len() > Residue::ROWS {
         return Err(JudgeCause::TooManyRows);
     }
     match voucher {
@@ -80,7 +60,7 @@ fn leave_remainder(rows: &[Row], voucher: &[i32]) -> Result<(), JudgeCause>
 fn fits(rows: &[Row], modulus: i32, numbers: &[i32]) -> bool
     ensures { result ≡ residue_passes rows.now (modulus ∷ numbers.now) BadVoucher }
 {
-    is_between(2, LARGEST_NUMBER, modulus) && numbers_fit(-LARGEST_NUMBER, rows.len(), numbers)
+    (2..=LARGEST_NUMBER).contains(&modulus) && numbers_fit(-LARGEST_NUMBER, rows.len(), numbers)
 }
 
 // The answer for a voucher of this modulus and these numbers.
@@ -94,9 +74,6 @@ fn leave_by(rows: &[Row], modulus: i32, numbers: &[i32]) -> Result<(), JudgeCaus
     if !are_equations(rows) {
         return Err(JudgeCause::BadShape);
     }
-    let unknowns_gone = gather(rows, numbers).is_divided(modulus);
-    last_cause(
-        unknowns_gone,
-        !divides(modulus, total_constant(rows, numbers)),
-    )
+    let sum = Combination::of(rows, numbers);
+    last_cause(sum.is_divided(modulus), !divides(modulus, sum.constant))
 }

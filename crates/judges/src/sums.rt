@@ -4,21 +4,19 @@ ghost use Rattle.judges.specs.Judging.{Caused, Judged};
 ghost use Rattle.judges.specs.Sum.{sum_rows, sum_asks, sum_answer};
 ghost use Rattle.judges.specs.SumLaw.{sum_sound, sum_bounded};
 
-use crate::combine::{gather, total_constant};
+use crate::combine::Combination;
 use crate::meaning::Judge;
-use crate::unknowns::{LARGEST_CONFLICT, last_cause, numbers_fit};
+use crate::shared::{LARGEST_CONFLICT, last_cause, numbers_fit};
 use rows::{JudgeCause, Row};
-
-const MOST_ROWS: usize = 32;
 
 // The voucher has one number a row, from 0 to 1,048,576.
 #[derive(Clone, Copy)]
 pub struct Sum;
 
 impl Judge for Sum {
-    const ROWS: usize = MOST_ROWS;
+    const ROWS: usize = 32;
 
-    ghost most = { sum_rows };
+    ghost ROWS = { sum_rows };
 
     ghost admits = { λ _ rows voucher. is_ok (sum_answer rows voucher) };
 
@@ -27,10 +25,6 @@ impl Judge for Sum {
     ghost sound = { λ s. sum_sound };
 
     ghost bounded = { λ s. sum_bounded };
-
-    fn most_rows() -> usize {
-        Self::ROWS
-    }
 
     fn judge(&self, rows: &[Row], voucher: &[i32]) -> Result<(), JudgeCause>
         ensures yes { is_ok result ≡ is_ok (sum_answer rows.now voucher.now) }
@@ -46,15 +40,12 @@ impl Judge for Sum {
 fn add_up(rows: &[Row], voucher: &[i32]) -> Result<(), JudgeCause>
     ensures { result ≡ sum_answer rows.now voucher.now }
 {
-    if rows.len() > MOST_ROWS {
+    if rows.len() > Sum::ROWS {
         return Err(JudgeCause::TooManyRows);
     }
     if !numbers_fit(0, rows.len(), voucher) {
         return Err(JudgeCause::BadVoucher);
     }
-    let unknowns_gone = gather(rows, voucher).is_divided(0);
-    last_cause(
-        unknowns_gone,
-        total_constant(rows, voucher) <= LARGEST_CONFLICT,
-    )
+    let sum = Combination::of(rows, voucher);
+    last_cause(sum.is_divided(0), sum.constant <= LARGEST_CONFLICT)
 }

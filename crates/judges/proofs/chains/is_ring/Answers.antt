@@ -1,22 +1,15 @@
-use Rattle.std.proofs.Common.{refl, inl, inr}
-use Rattle.judges.specs.Chain.{home_of, leads}
-use Rattle.judges.proofs.Links.{Follows, leads_at, all_linked, one_linked, not_linked}
+use Rattle.std.proofs.Common.{sym, ◌∙◌, rules, tests}
+use Rattle.std.proofs.lemmas.Iterator.{YieldsList-from_slice, YieldsList-from_take, YieldsList-from_zip}
+use Rattle.std.proofs.lemmas.Iterator.Adapters.{YieldsList-from_skip}
+use Rattle.std.proofs.lemmas.Iterator.Consumers.{YieldsList-from_chain}
+use Rattle.std.proofs.lemmas.Iterator.Search.{all_from_yields_List}
+use Rattle.judges.proofs.Links.{linked, leads_round}
 use Rattle.judges.proofs.chains.is_ring.Goals as goal
-use Rattle.judges.proofs.chains.is_ring.Goals.{then-i-rows, else-i-rows}
-
-pub returns-then-not-same : goal.returns-then-not-same
-returns-then-not-same c =
-    let rows = c.args.rows.now in
-    let i = c.loop-i.i in
-    let f : Follows rows i c.if-i-rows.next = elim c.if-i-rows.branch [ then-i-rows w ↦ inl (w.if-i-rows.true, w.next-is) | else-i-rows w ↦ inr (w.if-i-rows.false, w.next-is) ] in
-    not_linked (leads (home_of rows)) rows i c.loop-i.invariant _ (leads_at rows i c.loop-i-test.true c.if-i-rows.next f c.unknown_with.result c.unknown_with-in-loop-i.result c.unknown_with.ensures c.unknown_with-in-loop-i.ensures) c.if-not-same.ensures
-
-pub loop-i-preserved : goal.loop-i-preserved
-loop-i-preserved c =
-    let rows = c.args.rows.now in
-    let i = c.loop-i.i in
-    let f : Follows rows i c.if-i-rows.next = elim c.if-i-rows.branch [ then-i-rows w ↦ inl (w.if-i-rows.true, w.next-is) | else-i-rows w ↦ inr (w.if-i-rows.false, w.next-is) ] in
-    one_linked (leads (home_of rows)) rows i c.loop-i.invariant _ (leads_at rows i c.loop-i-test.true c.if-i-rows.next f c.unknown_with.result c.unknown_with-in-loop-i.result c.unknown_with.ensures c.unknown_with-in-loop-i.ensures) c.if-not-same.ensures
 
 pub returns : goal.returns
-returns c = let rows = c.args.rows.now in all_linked (leads (home_of rows)) rows c.loop-i.i c.loop-i.invariant refl c.loop-i-test.false
+returns c =
+    let rows = c.args.rows.now in
+    all_from_yields_List linked c.all.new.self _ c.all.result c.all.ensures.ran
+    (YieldsList-from_zip (YieldsList-from_slice rows (cc)) (YieldsList-from_chain (YieldsList-from_skip 1 (YieldsList-from_slice rows (cc)) (cc)) (YieldsList-from_take 1 (YieldsList-from_slice rows (cc)) (cc)) (cc) (cc)))
+    (λ x b q k. search (rules, tests))
+    ∙ sym (leads_round rows)

@@ -1,24 +1,17 @@
-// What the judges share: unknowns, numbers of a voucher, and the order of the last two causes.
+// What the judges share: numbers of a voucher, division, and the order of the last two causes.
 ghost use Rattle.std.specs.Prelude.{◌≡◌, Ok};
 ghost use Rattle.rows.specs.declared.cause.JudgeCause.TheVariants.{UnknownsLeft, NoConflict};
 ghost use Rattle.judges.specs.Judging.{tried};
-ghost use Rattle.judges.specs.Unknowns.{same_unknown};
-ghost use Rattle.judges.specs.Combination.{between, all_between, numbers_fit};
+ghost use Rattle.judges.specs.Combination.{between, numbers_fit};
 ghost use Rattle.judges.specs.Residue.{divides as divides_test};
 
-use rows::{JudgeCause, Unknown};
+use rows::JudgeCause;
 
 // Numbers of a voucher are at most this, up or down.
 pub(crate) const LARGEST_NUMBER: i32 = 1_048_576;
 
 // The largest constant that is a conflict where no unknown is left.
 pub(crate) const LARGEST_CONFLICT: i128 = -1;
-
-pub(crate) fn same(a: Unknown, b: Unknown) -> bool
-    ensures { result ≡ same_unknown a b }
-{
-    a.object == b.object && a.attribute == b.attribute
-}
 
 // Whether m divides z; 0 divides 0 alone.
 pub(crate) fn divides(m: i32, z: i128) -> bool
@@ -31,28 +24,17 @@ pub(crate) fn divides(m: i32, z: i128) -> bool
     }
 }
 
-pub(crate) fn is_between(low: i32, high: i32, n: i32) -> bool
+fn is_between(low: i32, high: i32, n: i32) -> bool
     ensures { result ≡ between low high n }
 {
-    low <= n && n <= high
-}
-
-fn are_between(low: i32, high: i32, numbers: &[i32]) -> bool
-    ensures { result ≡ all_between low high numbers.now }
-{
-    for n in numbers {
-        if !is_between(low, high, *n) {
-            return false;
-        }
-    }
-    true
+    (low..=high).contains(&n)
 }
 
 // This many numbers of a voucher, each from `low` to the largest.
 pub(crate) fn numbers_fit(low: i32, count: usize, numbers: &[i32]) -> bool
     ensures { result ≡ numbers_fit low count numbers.now }
 {
-    numbers.len() == count && are_between(low, LARGEST_NUMBER, numbers)
+    numbers.len() == count && numbers.iter().all(|n| is_between(low, LARGEST_NUMBER, *n))
 }
 
 // Unknowns that are left over come before a constant without conflict.
