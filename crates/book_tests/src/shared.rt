@@ -45,11 +45,7 @@ pub fn several<T: Copy + Drop>(
     x: T,
     count: usize,
 ) -> Result<Vec<T>, AllocError> {
-    let mut v = Vec::new(rt.alloc());
-    for _i in 0..count {
-        v.push(x)?;
-    }
-    Ok(v)
+    Ok(vec![in rt.alloc(); x; count]?)
 }
 
 // The detail of the refusal, or None where the book is made.

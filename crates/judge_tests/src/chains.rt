@@ -2,7 +2,7 @@
 use crate::shared::*;
 use judges::Chain;
 use rows::JudgeCause::{BadShape, BadVoucher, NoConflict, TooManyRows, UnknownsLeft};
-use rows::{Relation, Term, Unknown};
+use rows::Relation::{AtLeast, Equal};
 use std::test::Fail;
 
 #[test]
@@ -26,37 +26,22 @@ fn rings(rt: HostRuntime) -> Result<(), Fail> {
     ])
 }
 
-const SHAPE_CASES: [(&str, Relation, [Term; 3], usize); 9] = [
-    ("an equation", Relation::Equal, [PLUS_U, MINUS_U, PLUS_U], 2),
-    ("no terms", Relation::AtLeast, [PLUS_U, MINUS_U, PLUS_U], 0),
-    ("one term", Relation::AtLeast, [PLUS_U, MINUS_U, PLUS_U], 1),
-    (
-        "three terms",
-        Relation::AtLeast,
-        [PLUS_U, MINUS_U, PLUS_U],
-        3,
-    ),
-    ("1 and 1", Relation::AtLeast, [PLUS_U, PLUS_U, MINUS_U], 2),
-    (
-        "-1 and -1",
-        Relation::AtLeast,
-        [MINUS_U, MINUS_U, PLUS_U],
-        2,
-    ),
-    (
-        "2 and -2",
-        Relation::AtLeast,
-        [TWO_U, MINUS_TWO_U, PLUS_U],
-        2,
-    ),
-    ("1 and 0", Relation::AtLeast, [PLUS_U, NO_U, MINUS_U], 2),
-    ("0 and -1", Relation::AtLeast, [NO_U, MINUS_U, PLUS_U], 2),
-];
-
-// A row of wrong shape: alone, after a good row, and with a voucher.
+// A row of wrong shape: alone, after a good row, and with a voucher. It has three terms in u, the first ones count.
 #[test]
 fn shapes(rt: HostRuntime) -> Result<(), Fail> {
-    for (name, relation, terms, count) in SHAPE_CASES {
+    let table = [
+        ("an equation", Equal, [1, -1, 1], 2),
+        ("no terms", AtLeast, [1, -1, 1], 0),
+        ("one term", AtLeast, [1, -1, 1], 1),
+        ("three terms", AtLeast, [1, -1, 1], 3),
+        ("1 and 1", AtLeast, [1, 1, -1], 2),
+        ("-1 and -1", AtLeast, [-1, -1, 1], 2),
+        ("2 and -2", AtLeast, [2, -2, 1], 2),
+        ("1 and 0", AtLeast, [1, 0, -1], 2),
+        ("0 and -1", AtLeast, [0, -1, 1], 2),
+    ];
+    for (name, relation, coefficients, count) in table {
+        let terms = coefficients.map(|c| term(c, U));
         let rows = [link(U, U, -1), row(relation, terms, count, -1)];
         answers(&rt, &name, &Chain, &rows[1..2], &[], Err(BadShape))?;
         answers(&rt, &name, &Chain, &rows, &[], Err(BadShape))?;

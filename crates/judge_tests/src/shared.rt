@@ -21,31 +21,6 @@ pub const V: Unknown = Unknown {
     attribute: 1,
 };
 
-pub const PLUS_U: Term = Term {
-    coefficient: 1,
-    unknown: U,
-};
-
-pub const MINUS_U: Term = Term {
-    coefficient: -1,
-    unknown: U,
-};
-
-pub const TWO_U: Term = Term {
-    coefficient: 2,
-    unknown: U,
-};
-
-pub const MINUS_TWO_U: Term = Term {
-    coefficient: -2,
-    unknown: U,
-};
-
-pub const NO_U: Term = Term {
-    coefficient: 0,
-    unknown: U,
-};
-
 pub fn term(coefficient: i32, unknown: Unknown) -> Term {
     Term {
         coefficient,
