@@ -71,11 +71,39 @@ fn example_nodes() -> [Node; 6]
     let none = in_slots(0, 0);
     [
         node(both, false, at_least(1, -1, 0)),
-        node(one, false, Formula::Exists { class: GRANT, body: 1 }),
-        node(none, true, Formula::Every { class: OPENING, body: 2 }),
+        node(
+            one,
+            false,
+            Formula::Exists {
+                class: GRANT,
+                body: 1,
+            },
+        ),
+        node(
+            none,
+            true,
+            Formula::Every {
+                class: OPENING,
+                body: 2,
+            },
+        ),
         node(both, false, at_least(-1, 1, -1)),
-        node(one, false, Formula::Every { class: GRANT, body: 4 }),
-        node(none, true, Formula::Exists { class: OPENING, body: 5 }),
+        node(
+            one,
+            false,
+            Formula::Every {
+                class: GRANT,
+                body: 4,
+            },
+        ),
+        node(
+            none,
+            true,
+            Formula::Exists {
+                class: OPENING,
+                body: 5,
+            },
+        ),
     ]
 }
 
