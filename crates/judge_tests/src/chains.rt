@@ -3,27 +3,79 @@ use crate::shared::*;
 use judges::Chain;
 use rows::JudgeCause::{BadShape, BadVoucher, NoConflict, TooManyRows, UnknownsLeft};
 use rows::Relation::{AtLeast, Equal};
+use std::process::Abort;
 use std::test::Fail;
 
+fn rings_of_one_or_two(rt: &impl Abort) -> Result<(), Fail> {
+    each(
+        rt,
+        &Chain,
+        &[
+            ("no rows", &[], &[], Err(NoConflict)),
+            ("an unknown to itself", &[link(U, U, -1)], &[], Ok(())),
+            ("without conflict", &[link(U, U, 0)], &[], Err(NoConflict)),
+            (
+                "there and back",
+                &[link(U, W, 0), link(W, U, -1)],
+                &[],
+                Ok(()),
+            ),
+            ("turned", &[turned(U, W, -1), turned(W, U, 0)], &[], Ok(())),
+            ("mixed", &[link(U, W, -3), turned(W, U, 2)], &[], Ok(())),
+            (
+                "1 and -1",
+                &[link(U, W, 1), link(W, U, -1)],
+                &[],
+                Err(NoConflict),
+            ),
+        ],
+    )
+}
+
+fn rings_of_three(rt: &impl Abort) -> Result<(), Fail> {
+    let whole = [link(U, W, 5), turned(W, V, -9), link(V, U, 3)];
+    let no_end = [link(U, W, 0), link(W, V, 0), link(V, W, -1)];
+    let no_middle = [link(U, W, 0), link(V, W, 0), link(W, U, -1)];
+    each(
+        rt,
+        &Chain,
+        &[
+            ("three rows", &whole, &[], Ok(())),
+            ("broken at the last link", &no_end, &[], Err(UnknownsLeft)),
+            ("broken in the middle", &no_middle, &[], Err(UnknownsLeft)),
+        ],
+    )
+}
+
+fn broken_rings(rt: &impl Abort) -> Result<(), Fail> {
+    let wrong_way = [link(U, W, 0), link(U, W, -1)];
+    each(
+        rt,
+        &Chain,
+        &[
+            ("one row", &[link(U, W, -1)], &[], Err(UnknownsLeft)),
+            (
+                "another attribute",
+                &[link(U, V, -1)],
+                &[],
+                Err(UnknownsLeft),
+            ),
+            ("the wrong way", &wrong_way, &[], Err(UnknownsLeft)),
+            (
+                "broken, without conflict",
+                &[link(U, W, 0)],
+                &[],
+                Err(UnknownsLeft),
+            ),
+        ],
+    )
+}
+
 #[test]
-#[rattlefmt::skip]
 fn rings(rt: HostRuntime) -> Result<(), Fail> {
-    each(&rt, &Chain, &[
-        ("no rows", &[], &[], Err(NoConflict)),
-        ("an unknown to itself", &[link(U, U, -1)], &[], Ok(())),
-        ("without conflict", &[link(U, U, 0)], &[], Err(NoConflict)),
-        ("there and back", &[link(U, W, 0), link(W, U, -1)], &[], Ok(())),
-        ("turned", &[turned(U, W, -1), turned(W, U, 0)], &[], Ok(())),
-        ("mixed", &[link(U, W, -3), turned(W, U, 2)], &[], Ok(())),
-        ("1 and -1", &[link(U, W, 1), link(W, U, -1)], &[], Err(NoConflict)),
-        ("three rows", &[link(U, W, 5), turned(W, V, -9), link(V, U, 3)], &[], Ok(())),
-        ("one row", &[link(U, W, -1)], &[], Err(UnknownsLeft)),
-        ("another attribute", &[link(U, V, -1)], &[], Err(UnknownsLeft)),
-        ("the wrong way", &[link(U, W, 0), link(U, W, -1)], &[], Err(UnknownsLeft)),
-        ("broken at the last link", &[link(U, W, 0), link(W, V, 0), link(V, W, -1)], &[], Err(UnknownsLeft)),
-        ("broken in the middle", &[link(U, W, 0), link(V, W, 0), link(W, U, -1)], &[], Err(UnknownsLeft)),
-        ("broken, without conflict", &[link(U, W, 0)], &[], Err(UnknownsLeft)),
-    ])
+    rings_of_one_or_two(&rt)?;
+    rings_of_three(&rt)?;
+    broken_rings(&rt)
 }
 
 // A row of wrong shape: alone, after a good row, and with a voucher. It has three terms in u, the first ones count.
