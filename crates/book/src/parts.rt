@@ -14,7 +14,7 @@ pub struct Term {
     pub attribute: u32,
 }
 
-// The sum of the first `count` terms, plus the constant.
+// The sum of the first `count` terms, plus the constant. A node is a plain value without a heap, so an atom has places.
 #[derive(Clone, Copy, PartialEq, Eq, Debug)]
 pub struct Atom {
     pub terms: [Term; 8],
@@ -35,7 +35,7 @@ pub enum Formula {
     Every { class: u32, body: u32 },
 }
 
-// The scope has a class number in each used slot, which come first, and 0 in the others.
+// The scope has a class number in each used slot, which come first, and 0 in the others, as books are written.
 #[derive(Clone, Copy, PartialEq, Eq, Debug)]
 pub struct Node {
     pub scope: [u32; 6],

@@ -1,4 +1,5 @@
-// The causes of refusal. Each has its number, and a detail that says where the fault lies.
+// The causes of refusal. Each has its number, and a detail that says where the fault lies. Details are the numbers
+// that are published, 0 among them.
 
 #[derive(Clone, Copy, PartialEq, Eq, Debug)]
 pub enum Cause {

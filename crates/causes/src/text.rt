@@ -1,4 +1,4 @@
-// A refusal by its number, its detail and its text.
+// A refusal by its number, its detail and its text. Cases with a detail have no number to cast to.
 ghost use Rattle.std.specs.Prelude.{◌≡◌, Some};
 ghost use Rattle.causes.specs.Numbers.{cause_number, cause_detail};
 ghost use Rattle.causes.specs.Texts.{cause_meaning, cause_text};

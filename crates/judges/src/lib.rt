@@ -1,4 +1,5 @@
-// Judges: what shows that no whole numbers satisfy a list of rows.
+// Judges: what shows that no whole numbers satisfy a list of rows. Each named judge has an impl of its own, since its
+// clauses name its own rule.
 #![tactic(auto)]
 
 mod asking;

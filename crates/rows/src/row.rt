@@ -23,7 +23,7 @@ pub enum Relation {
 }
 
 // The sum of the first `count` terms, plus the constant, is "at least" or "equal" to 0.
-// There are eight places for terms, so a count beyond eight counts them all.
+// There are eight places for terms, so a count beyond eight counts them all. A row is a plain value without a heap.
 #[derive(Clone, Copy)]
 pub struct Row {
     pub relation: Relation,

@@ -11,7 +11,7 @@ use book::Formula;
 use causes::Cause;
 
 impl Trial<'_> {
-    // Node n, with an element's number in each used slot.
+    // Node n, with an element's number in each used slot and 0 in the others, as in a scope.
     #[cycle(both_evaluate_walk)]
     pub(crate) fn evaluate(&self, n: u32, slots: [u32; 6], budget: u32) -> Result<Evaluation, Cause>
         requires { Known self.now n }
