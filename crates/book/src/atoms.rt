@@ -1,8 +1,10 @@
-// An atom from a list of terms.
-ghost use Rattle.std.specs.Prelude.{◌≡◌, length};
-ghost use Rattle.book.specs.Rules.{places_of};
+// An atom from a list of terms, and its terms again.
+ghost use Rattle.std.specs.Prelude.{◌≡◌, ◌≤◌, length};
+ghost use Rattle.book.specs.Limits.{most_terms};
+ghost use Rattle.book.specs.Rules.{places_of, terms_of};
 
 use crate::parts::{Atom, Term};
+use crate::rules::MOST_TERMS;
 use std::array;
 
 impl Atom {
@@ -17,5 +19,13 @@ impl Atom {
             count: terms.len(),
             constant,
         }
+    }
+
+    // The terms that count: all eight where the count is larger.
+    pub fn terms(&self) -> &[Term]
+        ensures value { result.now ≡ terms_of self.now }
+        ensures few { length result.now ≤ most_terms }
+    {
+        &self.terms[..self.count.min(MOST_TERMS)]
     }
 }

@@ -12,7 +12,7 @@ const MOST_ATTRIBUTES: u32 = 8;
 
 const MOST_NODES: usize = 4096;
 
-const MOST_TERMS: usize = 8;
+pub(crate) const MOST_TERMS: usize = 8;
 
 const SLOTS: usize = 6;
 
@@ -107,7 +107,7 @@ impl Place<'_> {
         ensures { result ≡ atom_ok self.now.classes.now self.now.scope a.now }
     {
         a.count <= MOST_TERMS
-            && self.terms_fit(&a.terms[..a.count])
+            && self.terms_fit(a.terms())
             && a.constant.unsigned_abs() <= LARGEST_CONSTANT
     }
 

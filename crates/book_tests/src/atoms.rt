@@ -5,12 +5,6 @@ use std::fmt;
 use std::process::Abort;
 use std::test::Fail;
 
-const ONE_SLOT: [u32; 6] = [1, 0, 0, 0, 0, 0];
-
-const TWO_SLOTS: [u32; 6] = [1, 2, 0, 0, 0, 0];
-
-const SIX_SLOTS: [u32; 6] = [1, 2, 1, 2, 1, 2];
-
 // The atom under "0 or more" and under "exactly 0".
 fn each_way(
     rt: &(impl Abort + AllocGlobal),
@@ -42,7 +36,7 @@ fn coefficients(rt: HostRuntime) -> Result<(), Fail> {
         each_way(
             &rt,
             &format_args!("coefficient {coefficient}"),
-            ONE_SLOT,
+            ONE,
             atom,
             fits,
         )?;
@@ -76,7 +70,7 @@ fn counts_of_terms(rt: HostRuntime) -> Result<(), Fail> {
     for (count, fits) in [(0, true), (1, true), (8, true), (9, false)] {
         let terms = several(&rt, term(1, 0, 0), count)?;
         let atom = Atom::new(&terms, 0);
-        each_way(&rt, &format_args!("{count} terms"), ONE_SLOT, atom, fits)?;
+        each_way(&rt, &format_args!("{count} terms"), ONE, atom, fits)?;
     }
     Ok(())
 }
@@ -91,8 +85,8 @@ fn places_of_terms(rt: HostRuntime) -> Result<(), Fail> {
         ([bad, fine, fine, fine, fine, fine, fine, fine], 1, false),
         ([fine, fine, fine, fine, fine, fine, fine, bad], 7, true),
         ([fine, fine, fine, fine, fine, fine, fine, bad], 8, false),
-        ([fine, fine, fine, fine, fine, fine, fine, fine], 8, true),
-        ([fine, fine, fine, fine, fine, fine, fine, fine], 9, false),
+        ([fine; 8], 8, true),
+        ([fine; 8], 9, false),
     ];
     for (terms, count, fits) in table {
         let atom = Atom {
@@ -100,13 +94,7 @@ fn places_of_terms(rt: HostRuntime) -> Result<(), Fail> {
             count,
             constant: 0,
         };
-        each_way(
-            &rt,
-            &format_args!("{count} counted terms"),
-            ONE_SLOT,
-            atom,
-            fits,
-        )?;
+        each_way(&rt, &format_args!("{count} counted terms"), ONE, atom, fits)?;
     }
     Ok(())
 }
@@ -115,14 +103,14 @@ fn places_of_terms(rt: HostRuntime) -> Result<(), Fail> {
 fn slots(rt: HostRuntime) -> Result<(), Fail> {
     let table = [
         (NO_SCOPE, 0, false),
-        (ONE_SLOT, 0, true),
-        (ONE_SLOT, 1, false),
-        (TWO_SLOTS, 1, true),
-        (TWO_SLOTS, 2, false),
-        (TWO_SLOTS, 6, false),
-        (SIX_SLOTS, 5, true),
-        (SIX_SLOTS, 6, false),
-        (SIX_SLOTS, 4_294_967_295, false),
+        (ONE, 0, true),
+        (ONE, 1, false),
+        (ONE_TWO, 1, true),
+        (ONE_TWO, 2, false),
+        (ONE_TWO, 6, false),
+        (SIX, 5, true),
+        (SIX, 6, false),
+        (SIX, 4_294_967_295, false),
     ];
     for (scope, slot, fits) in table {
         let atom = Atom::new(&[term(1, slot, 0)], 0);
@@ -154,7 +142,7 @@ fn attributes(rt: HostRuntime) -> Result<(), Fail> {
         each_way(
             &rt,
             &format_args!("attribute {attribute} of slot {slot}"),
-            TWO_SLOTS,
+            ONE_TWO,
             atom,
             fits,
         )?;

@@ -3,8 +3,6 @@ use crate::shared::*;
 use book::Class;
 use std::test::Fail;
 
-const ONE_SLOT: [u32; 6] = [1, 0, 0, 0, 0, 0];
-
 #[test]
 fn classes(rt: HostRuntime) -> Result<(), Fail> {
     for (count, expected) in [(0, Some(0)), (1, None), (32, None), (33, Some(0))] {
@@ -42,8 +40,8 @@ fn nodes(rt: HostRuntime) -> Result<(), Fail> {
 fn premises(rt: HostRuntime) -> Result<(), Fail> {
     let fine = plain(NO_SCOPE);
     let first = premise(NO_SCOPE);
-    let inner = plain(ONE_SLOT);
-    let scoped = premise(ONE_SLOT);
+    let inner = plain(ONE);
+    let scoped = premise(ONE);
     let full = premise([1, 2, 1, 2, 1, 2]);
     let table = [
         ("none", [fine, fine, fine, fine], Some(0)),

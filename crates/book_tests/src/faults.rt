@@ -3,8 +3,6 @@ use crate::shared::*;
 use book::{Class, Formula, Node};
 use std::test::Fail;
 
-const SCOPE: [u32; 6] = [1, 0, 0, 0, 0, 0];
-
 // Its children are 0, which no node may name.
 fn bad() -> Node {
     node(NO_SCOPE, Formula::And { left: 0, right: 0 })
@@ -41,7 +39,7 @@ fn the_lowest_bad_node(rt: HostRuntime) -> Result<(), Fail> {
 fn a_bad_node_and_a_wrong_mark(rt: HostRuntime) -> Result<(), Fail> {
     let fine = plain(NO_SCOPE);
     let first = premise(NO_SCOPE);
-    let scoped = premise(SCOPE);
+    let scoped = premise(ONE);
     let table = [
         (
             "a bad node and no premise",

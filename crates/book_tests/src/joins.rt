@@ -5,16 +5,14 @@ use std::fmt;
 use std::process::Abort;
 use std::test::Fail;
 
-const SCOPE: [u32; 6] = [1, 0, 0, 0, 0, 0];
-
 // Nodes 2, 3 and 5 have the scope of node 4, which is the one under test.
 fn others() -> [Node; 5] {
     [
         premise(NO_SCOPE),
-        plain(SCOPE),
-        plain(SCOPE),
-        plain(SCOPE),
-        plain(SCOPE),
+        plain(ONE),
+        plain(ONE),
+        plain(ONE),
+        plain(ONE),
     ]
 }
 
@@ -26,7 +24,7 @@ fn each_way(
     fits: bool,
 ) -> Result<(), Fail> {
     for formula in [Formula::And { left, right }, Formula::Or { left, right }] {
-        placed(rt, name, &others(), 4, node(SCOPE, formula), fits)?;
+        placed(rt, name, &others(), 4, node(ONE, formula), fits)?;
     }
     Ok(())
 }

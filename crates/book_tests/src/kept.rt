@@ -51,16 +51,26 @@ fn atoms(rt: HostRuntime) {
         constant: -1,
     };
     let nine = Atom {
-        terms: [t, t, t, t, t, t, t, t],
+        terms: [t; 8],
         count: 9,
         constant: -2_147_483_648,
     };
     assert_eq!(rt; Atom::new(&[t, t, t], -1), three, "three terms");
-    assert_eq!(rt;
-        Atom::new(&[t, t, t, t, t, t, t, t, t], -2_147_483_648),
-        nine,
-        "nine terms"
-    );
+    assert_eq!(rt; Atom::new(&[t; 9], -2_147_483_648), nine, "nine terms");
+}
+
+// The first terms of an atom's places, as many as are counted, and never more than eight.
+#[test]
+fn counted_terms(rt: HostRuntime) {
+    let t = term(-7, 5, 10);
+    for (count, expected) in [(0, 0), (1, 1), (7, 7), (8, 8), (9, 8), (usize::MAX, 8)] {
+        let atom = Atom {
+            terms: [t; 8],
+            count,
+            constant: 3,
+        };
+        assert_eq!(rt; atom.terms(), &[t; 8][..expected], "{count} terms");
+    }
 }
 
 #[test]

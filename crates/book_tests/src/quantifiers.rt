@@ -4,15 +4,9 @@ use book::{Formula, Node};
 use std::process::Abort;
 use std::test::Fail;
 
-const ONE: [u32; 6] = [1, 0, 0, 0, 0, 0];
-
 const TWO: [u32; 6] = [2, 0, 0, 0, 0, 0];
 
-const ONE_TWO: [u32; 6] = [1, 2, 0, 0, 0, 0];
-
 const FIVE: [u32; 6] = [1, 2, 1, 2, 1, 0];
-
-const SIX: [u32; 6] = [1, 2, 1, 2, 1, 2];
 
 // Node 6 is the one under test, and node 7 has the scope of node 2.
 fn others() -> [Node; 7] {

@@ -11,6 +11,12 @@ pub const CLASSES: [Class; 2] = [Class { attributes: 3 }, Class { attributes: 8 
 
 pub const NO_SCOPE: [u32; 6] = [0, 0, 0, 0, 0, 0];
 
+pub const ONE: [u32; 6] = [1, 0, 0, 0, 0, 0];
+
+pub const ONE_TWO: [u32; 6] = [1, 2, 0, 0, 0, 0];
+
+pub const SIX: [u32; 6] = [1, 2, 1, 2, 1, 2];
+
 pub fn term(coefficient: i32, slot: u32, attribute: u32) -> Term {
     Term {
         coefficient,
@@ -79,7 +85,7 @@ pub fn placed(
 {
     let mut all = Vec::from_slice(rt.alloc(), nodes)?;
     all[n as usize - 1] = node;
-    let expected = if fits { None } else { Some(n) };
+    let expected = (!fits).then_some(n);
     assert_eq!(rt; fault(rt, &CLASSES, &all)?, expected, "{name}");
     Ok(())
 }

@@ -8,47 +8,13 @@ use world::{Element, world_test};
 
 const PLENTY: u32 = 1000;
 
-// An opening and a grant, by their times.
-const OPENING_3: Element<'static> = Element {
-    class: OPENING,
-    values: &[3],
-};
-
-const OPENING_5: Element<'static> = Element {
-    class: OPENING,
-    values: &[5],
-};
-
-const GRANT_4: Element<'static> = Element {
-    class: GRANT,
-    values: &[4],
-};
-
-const GRANT_5: Element<'static> = Element {
-    class: GRANT,
-    values: &[5],
-};
-
-const GRANT_6: Element<'static> = Element {
-    class: GRANT,
-    values: &[6],
-};
-
-// Elements that no log of the example may have.
-const STRANGER: Element<'static> = Element {
-    class: 3,
-    values: &[6],
-};
-
-const TWO_TIMES: Element<'static> = Element {
-    class: GRANT,
-    values: &[5, 6],
-};
-
-const TOO_LATE: Element<'static> = Element {
-    class: GRANT,
-    values: &[2_147_483_648],
-};
+// An event of a class, with its times.
+fn event(class: u32, times: &[i64]) -> Element {
+    Element {
+        class,
+        values: times,
+    }
+}
 
 // What was tested, and what the world test says of it.
 fn show(
@@ -66,7 +32,7 @@ fn show(
 }
 
 fn show_logs(rt: &impl Print, book: &Book) -> anyhow::Result<()> {
-    let pair = [OPENING_5, GRANT_5];
+    let pair = [event(OPENING, &[5]), event(GRANT, &[5])];
     show(rt, book, "empty log", &[], PLENTY)?;
     show(rt, book, "opening at 5, grant at 5", &pair, PLENTY)?;
     show(rt, book, "the same, within 4 visits", &pair, 4)?;
@@ -75,22 +41,32 @@ fn show_logs(rt: &impl Print, book: &Book) -> anyhow::Result<()> {
         rt,
         book,
         "opening at 5, grant at 6",
-        &[OPENING_5, GRANT_6],
+        &[event(OPENING, &[5]), event(GRANT, &[6])],
         PLENTY,
     )?;
     show(
         rt,
         book,
         "opening at 5, an event of class 3",
-        &[OPENING_5, STRANGER],
+        &[event(OPENING, &[5]), event(3, &[6])],
         PLENTY,
     )?;
-    show(rt, book, "grant with two times", &[TWO_TIMES], PLENTY)?;
+    show(
+        rt,
+        book,
+        "grant with two times",
+        &[event(GRANT, &[5, 6])],
+        PLENTY,
+    )?;
     show(
         rt,
         book,
         "grant at 2147483648",
-        &[OPENING_5, OPENING_3, TOO_LATE],
+        &[
+            event(OPENING, &[5]),
+            event(OPENING, &[3]),
+            event(GRANT, &[2_147_483_648]),
+        ],
         PLENTY,
     )
 }
@@ -116,14 +92,14 @@ fn run(rt: &HostRuntime) -> anyhow::Result<()> {
         rt,
         &rule,
         "grant at 4, opening at 5",
-        &[GRANT_4, OPENING_5],
+        &[event(GRANT, &[4]), event(OPENING, &[5])],
         PLENTY,
     )?;
     show(
         rt,
         &rule,
         "opening at 3, grant at 4",
-        &[OPENING_3, GRANT_4],
+        &[event(OPENING, &[3]), event(GRANT, &[4])],
         PLENTY,
     )?;
     println!(rt; "Books at a limit.")?;

@@ -15,16 +15,12 @@ fn joined<T: fmt::Display>(heap: Global, items: &[T]) -> Result<String, AllocErr
     let mut text = String::new(heap);
     for (i, item) in items.iter().take(SHOWN).enumerate() {
         let comma = if i > 0 { ", " } else { "" };
-        let one = format!(in heap; "{comma}{item}")?;
-        text.push_str(one.as_str())?;
+        write!(text, "{comma}{item}")?;
     }
     match items.len() {
         0 => text.push_str("none")?,
         1..=SHOWN => {}
-        n => {
-            let more = format!(in heap; " and {} more", n - SHOWN)?;
-            text.push_str(more.as_str())?;
-        }
+        n => write!(text, " and {} more", n - SHOWN)?,
     }
     Ok(text)
 }

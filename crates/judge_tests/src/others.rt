@@ -3,18 +3,8 @@ use crate::outside::*;
 use crate::shared::*;
 use judges::{Chain, Judge, Pair, Residue, Sum, referee};
 use rows::JudgeCause::{NoConflict, TooManyRows};
-use rows::{Relation, Row, Unknown};
 use std::process::Abort;
 use std::test::Fail;
-
-fn one(coefficient: i32, unknown: Unknown, constant: i64) -> Row {
-    row(
-        Relation::Equal,
-        [term(coefficient, unknown); 3],
-        1,
-        constant,
-    )
-}
 
 #[test]
 fn clashes(rt: HostRuntime) -> Result<(), Fail> {
@@ -53,23 +43,16 @@ fn the_limit_comes_first(rt: HostRuntime) {
     assert_eq!(rt; referee(&Never, &[bare(-1); 65], &[]), Err(TooManyRows));
 }
 
-fn stated<J: Judge>(rt: &impl Abort, _judge: &J, expected: usize) {
+fn stated<J: Judge>(rt: &impl Abort, expected: usize) {
     assert_eq!(rt; J::ROWS, expected);
 }
 
 #[test]
 fn limits_are_stated(rt: HostRuntime) {
-    stated(&rt, &Sum, 32);
-    stated(&rt, &Chain, 64);
-    stated(&rt, &Residue, 16);
-    stated(&rt, &Never, 64);
-    stated(&rt, &Clash, 2);
-    stated(
-        &rt,
-        &Pair {
-            first: Sum,
-            second: Clash,
-        },
-        64,
-    );
+    stated::<Sum>(&rt, 32);
+    stated::<Chain>(&rt, 64);
+    stated::<Residue>(&rt, 16);
+    stated::<Never>(&rt, 64);
+    stated::<Clash>(&rt, 2);
+    stated::<Pair<Sum, Clash>>(&rt, 64);
 }

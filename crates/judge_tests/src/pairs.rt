@@ -3,7 +3,6 @@ use crate::outside::*;
 use crate::shared::*;
 use judges::{Chain, Pair, Residue, Sum};
 use rows::JudgeCause::{BadShape, BadVoucher, NoConflict, TooManyRows, UnknownsLeft};
-use rows::Relation;
 use std::test::Fail;
 
 type Nested = Pair<Sum, Pair<Chain, Residue>>;
@@ -79,8 +78,8 @@ fn outside_judges(rt: HostRuntime) -> Result<(), Fail> {
             second: Sum,
         },
     };
-    let five = row(Relation::Equal, [term(1, U); 3], 1, -5);
-    let six = row(Relation::Equal, [term(1, U); 3], 1, -6);
+    let five = one(1, U, -5);
+    let six = one(1, U, -6);
     each(
         &rt,
         &judge,

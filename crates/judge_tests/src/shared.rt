@@ -65,6 +65,16 @@ pub fn turned(x: Unknown, y: Unknown, constant: i64) -> Row {
     )
 }
 
+// a x + c equals 0.
+pub fn one(coefficient: i32, unknown: Unknown, constant: i64) -> Row {
+    row(
+        Relation::Equal,
+        [term(coefficient, unknown); 3],
+        1,
+        constant,
+    )
+}
+
 // a u + b w + c equals 0.
 pub fn equation(a: i32, b: i32, constant: i64) -> Row {
     row(

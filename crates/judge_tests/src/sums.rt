@@ -70,7 +70,7 @@ fn several_terms(rt: HostRuntime) -> Result<(), Fail> {
     let thrice = row(least, [term(1, U), term(1, U), term(-2, U)], 3, -1);
     let attributes = row(least, [term(1, U), term(-1, V), term(0, W)], 2, -1);
     let nothing = row(least, [term(0, U); 3], 3, -1);
-    let five = row(Relation::Equal, [term(1, U); 3], 1, -5);
+    let five = one(1, U, -5);
     let four = row(least, [term(-1, U); 3], 1, 4);
     each(
         &rt,

@@ -17,11 +17,8 @@ pub(crate) const LARGEST_CONFLICT: i128 = -1;
 pub(crate) fn divides(m: i32, z: i128) -> bool
     ensures { result ≡ divides_test m z }
 {
-    let size = z.unsigned_abs();
-    match m.unsigned_abs() {
-        0 => size == 0,
-        modulus => size % u128::from(modulus) == 0,
-    }
+    z.unsigned_abs()
+        .is_multiple_of(u128::from(m.unsigned_abs()))
 }
 
 fn is_between(low: i32, high: i32, n: i32) -> bool

@@ -33,9 +33,7 @@ impl fmt::Display for JudgeCause {
     ghost output = { λ e. Some (judge_cause_text e) };
 
     fn fmt<W: fmt::Write>(&self, f: &mut fmt::Formatter<W>) -> fmt::Result {
-        let number = self.number();
-        let meaning = self.meaning();
-        write!(f, "cause {number}: {meaning}")
+        write!(f, "cause {}: {}", self.number(), self.meaning())
     }
 }
 
@@ -79,7 +77,7 @@ fn put_more<W: fmt::Write>(f: &mut fmt::Formatter<W>, constant: i64) -> fmt::Res
 {
     let sign = sign(false, constant < 0);
     match constant.unsigned_abs() {
-        0 => f.write_str(""),
+        0 => Ok(()),
         size => write!(f, "{sign}{size}"),
     }
 }

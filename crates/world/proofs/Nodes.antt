@@ -42,10 +42,7 @@ module _ (classes : List Class) (scope : List ℕ) (six : length scope ≤ slot_
   unfolding atom_ok
   atom_bounded a h =
       let p : terms_ok classes scope (terms_of a) ≡ true = grind (arith, nat_tests) in
-      record {
-        few = grind (arith, nat_tests);
-        each = λ i l. term_bounded _ (and_at (terms_ok classes scope) (term_ok classes scope) refl (λ _ _. refl) (terms_of a) i no_term l p);
-      }
+      record { each = λ i l. term_bounded _ (and_at (terms_ok classes scope) (term_ok classes scope) refl (λ _ _. refl) (terms_of a) i no_term l p) }
 
 -- the rules of node n, as far as its evaluation needs them
 module _ (classes : List Class) (nodes : List Node) (n : ℕ) where

@@ -2,7 +2,7 @@
 use Rattle.std.specs.Prelude.{◌≡◌, ℕ, zero, suc, ◌<◌, ◌≤◌, List, [], map, length, get_or, ℤ, Ok, Err, Result, slice_index_or, unsigned_abs}
 use Rattle.causes.specs.declared.cause.Cause.{Cause}
 use Rattle.causes.specs.declared.cause.Cause.TheVariants.{BadWorld, OverBudget}
-use Rattle.book.specs.Limits.{most_terms, slot_count, largest_coefficient}
+use Rattle.book.specs.Limits.{slot_count, largest_coefficient}
 use Rattle.book.specs.Rules.{no_term, terms_of}
 use Rattle.book.specs.declared.parts.Atom.{Atom}
 use Rattle.book.specs.declared.parts.Class.{Class}
@@ -26,7 +26,6 @@ pub record BoundedTerm (t : Term) : Type 0 where
   pub slot : t.slot < slot_count
 
 pub record Bounded (a : Atom) : Type 0 where
-  pub few : a.count ≤ most_terms
   pub each : (i : ℕ) → i < length (terms_of a) → BoundedTerm (slice_index_or (terms_of a) i no_term)
 
 -- what is found, with so many visits, is told where the budget suffices, and refused where it does not

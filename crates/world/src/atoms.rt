@@ -33,7 +33,7 @@ impl Trial<'_> {
         ensures { result ≡ meaning (env_in self.now slots.now) a.now }
     {
         let mut sum = i64::from(a.constant);
-        for t in &a.terms[..a.count] {
+        for t in a.terms() {
             sum += self.part(t, slots);
         }
         sum

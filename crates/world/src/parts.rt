@@ -50,7 +50,7 @@ impl Quantifier {
     }
 }
 
-// Whether every premise is true; else the lowest one that is false. A no is an answer: neither a None nor an Err.
+// Whether every premise is true; else the lowest one that is false. A no names a premise, and it is no refusal.
 #[derive(Clone, Copy, PartialEq, Eq, Debug)]
 pub enum Verdict {
     Yes,

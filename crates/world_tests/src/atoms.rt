@@ -94,6 +94,24 @@ fn eight(four: i32, three: i32, last: i32, constant: i32) -> Atom {
     Atom::new(&[a, a, a, a, b, b, b, term(last, 0)], constant)
 }
 
+// Sums, each for an element of this value, under "0 or more" and under "exactly 0".
+fn each_sum(
+    rt: &(impl Abort + AllocGlobal),
+    table: &[(Atom, i64, bool, bool)],
+) -> Result<(), Fail> {
+    for (atom, value, at_least, equal) in table {
+        each_way(
+            rt,
+            &format_args!("value {value}, constant {}", atom.constant),
+            *atom,
+            *value,
+            *at_least,
+            *equal,
+        )?;
+    }
+    Ok(())
+}
+
 #[test]
 fn the_largest_sums(rt: HostRuntime) -> Result<(), Fail> {
     let most = 2_147_483_647;
@@ -113,18 +131,7 @@ fn the_largest_sums(rt: HostRuntime) -> Result<(), Fail> {
             false,
         ),
     ];
-    for (atom, value, at_least, equal) in table {
-        let constant = atom.constant;
-        each_way(
-            &rt,
-            &format_args!("value {value}, constant {constant}"),
-            atom,
-            value,
-            at_least,
-            equal,
-        )?;
-    }
-    Ok(())
+    each_sum(&rt, &table)
 }
 
 // The terms add up to 0, or to the value itself.
@@ -150,16 +157,5 @@ fn sums_that_cancel(rt: HostRuntime) -> Result<(), Fail> {
             false,
         ),
     ];
-    for (atom, value, at_least, equal) in table {
-        let constant = atom.constant;
-        each_way(
-            &rt,
-            &format_args!("value {value}, constant {constant}"),
-            atom,
-            value,
-            at_least,
-            equal,
-        )?;
-    }
-    Ok(())
+    each_sum(&rt, &table)
 }

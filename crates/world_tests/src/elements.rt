@@ -51,7 +51,7 @@ fn placed(
     place: u32,
     fits: bool,
 ) -> Result<(), Fail> {
-    let bad = if fits { None } else { Some(place) };
+    let bad = (!fits).then_some(place);
     refused(rt, &format_args!("{name}, place {place}"), book, log, bad)
 }
 
@@ -176,13 +176,7 @@ fn the_first_bad_element(rt: HostRuntime) -> Result<(), Fail> {
     ];
     for (pairs, bad) in table {
         let log = elements(rt.alloc(), &pairs)?;
-        refused(
-            &rt,
-            &format_args!("bad: {bad:?}"),
-            &book,
-            log.as_slice(),
-            bad,
-        )?;
+        refused(&rt, &format_args!("bad: {bad:?}"), &book, &log, bad)?;
     }
     Ok(())
 }

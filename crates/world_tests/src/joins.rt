@@ -90,7 +90,7 @@ fn deep_chain(rt: HostRuntime) -> Result<(), Fail> {
         left: 4095,
         right: 1,
     }))?;
-    let book = made(rt.alloc(), nodes.as_slice())?;
+    let book = made(rt.alloc(), &nodes)?;
     each_log(
         &rt,
         "",

@@ -67,13 +67,7 @@ fn six_deep(rt: HostRuntime) -> Result<(), Fail> {
     ];
     for (number, expected) in table {
         let book = digits(rt.alloc(), number)?;
-        exactly(
-            &rt,
-            &format_args!("number {number}"),
-            &book,
-            log.as_slice(),
-            expected,
-        )?;
+        exactly(&rt, &format_args!("number {number}"), &book, &log, expected)?;
     }
     Ok(())
 }

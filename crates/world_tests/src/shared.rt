@@ -57,15 +57,13 @@ pub fn claims(first: bool, second: bool) -> [Node; 4] {
     [
         node(FIRST, not_negative()),
         Node {
-            scope: NO_SCOPE,
             premise: first,
-            formula: Formula::Every { class: 1, body: 1 },
+            ..premise(Formula::Every { class: 1, body: 1 })
         },
         node(SECOND, not_negative()),
         Node {
-            scope: NO_SCOPE,
             premise: second,
-            formula: Formula::Every { class: 2, body: 3 },
+            ..premise(Formula::Every { class: 2, body: 3 })
         },
     ]
 }
@@ -141,13 +139,7 @@ pub fn each_log(
             verdict: *verdict,
             visits: *visits,
         };
-        exactly(
-            rt,
-            &format_args!("{of}{name}"),
-            book,
-            log.as_slice(),
-            expected,
-        )?;
+        exactly(rt, &format_args!("{of}{name}"), book, &log, expected)?;
     }
     Ok(())
 }

@@ -1,8 +1,9 @@
-use Rattle.std.proofs.Common.{◌<◌, arith, w32, SFits, rules}
+use Rattle.std.proofs.Common.{◌+◌, ◌<◌, List, drop, ap, arith, w32, SFits, rules}
 use Rattle.std.proofs.lemmas.Int.{ints}
 use Rattle.std.proofs.lemmas.List.{at_drop_more}
 use Rattle.book.specs.Limits.{most_terms}
-use Rattle.book.specs.Rules.{terms_of, no_term}
+use Rattle.book.specs.Rules.{no_term}
+use Rattle.book.specs.declared.parts.Term.{Term}
 use Rattle.world.specs.Worlds.{world_of}
 use Rattle.world.specs.Truth.{sum, worth}
 use Rattle.world.specs.Inner.{env_of}
@@ -17,5 +18,11 @@ loop-t-init c =
 pub loop-t-preserved : goal.loop-t-preserved
 loop-t-preserved c =
     let few : c.loop-t.t-index < most_terms = search rules in
-    let next = at_drop_more (sum (env_of (world_of c.args.self.now.log.now) c.args.slots.now)) (terms_of c.args.a.now) c.loop-t.t-index no_term c.loop-t-test.true in
+    let ts = c.terms-t-items.result.now in
+    let i = c.loop-t.t-index in
+    let env = env_of (world_of c.args.self.now.log.now) c.args.slots.now in
+    let same = c.terms-t-items.ensures.value in
+    let here = ap (λ (xs : List Term). sum env (drop i xs)) same in
+    let rest = ap (λ (xs : List Term). sum env (drop (i + 1) xs)) same in
+    let next = at_drop_more (sum env) ts i no_term c.loop-t-test.true in
     record { so_far = omega (arith, ints); size = omega (arith, ints) }
