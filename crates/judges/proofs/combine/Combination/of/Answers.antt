@@ -1,10 +1,11 @@
-use Rattle.std.proofs.Common.{◌+◌, ◌<◌, length, drop, pos, FitsSigned, rules, arith, sym, ap, ◌∙◌}
+use Rattle.std.proofs.Common.{◌≡◌, ◌+◌, ◌<◌, length, drop, pos, ◌*ℤ◌, FitsSigned, rules, arith, sym, ap, ◌∙◌}
 use Rattle.std.specs.Int.{w32, w64}
-use Rattle.std.proofs.lemmas.Int.{ints, to_z-of_z}
+use Rattle.std.proofs.lemmas.Int.{ints}
 use Rattle.std.proofs.lemmas.List.{length_push}
 use Rattle.std.proofs.lemmas.Slice.Zip.{zip_turn}
 use Rattle.judges.specs.Unknowns.{no_row}
-use Rattle.judges.specs.Gather.{gathered}
+use Rattle.rows.specs.Meaning.{terms_of}
+use Rattle.judges.specs.Gather.{put_terms, gathered}
 use Rattle.judges.proofs.Tables.{gathered_more, constant_more}
 use Rattle.judges.proofs.combine.Combination.of.Goals as goal
 
@@ -26,8 +27,8 @@ loop-row-preserved c =
     let kept = c.loop-row.invariant in
     let fit : FitsSigned w32 n = search rules in
     let fits : FitsSigned w64 r.constant = search rules in
-    let table = simp to_z-of_z at c.add_terms.ensures.table in
-    let product = simp to_z-of_z at c.weigh-constant.ensures.value in
+    let table : c.add_terms.new.totals.items ≡ put_terms c.loop-row.totals.items n (terms_of r) = search rules in
+    let product : c.weigh-constant.result ≡ n *ℤ r.constant = search rules in
     let size = c.weigh-constant.ensures.size in
     let more = constant_more rows ns k t.0 t.1 r n (t.2 no_row) (t.3 (pos 0)) in
     rw (length_push xs (c.in-Some.row, c.in-Some.number)) (
