@@ -3,7 +3,6 @@
 
 mod atoms;
 mod made;
-mod making;
 mod parts;
 mod rules;
 

@@ -1,11 +1,13 @@
 // A made book: one that keeps every rule, and stays so.
 ghost use Rattle.book.specs.Rules.{WellFormed};
 
+mod making;
+
 use crate::parts::{Class, Node};
 
 #[derive(Drop)]
 pub struct Book {
-    pub(crate) classes: Vec<Class>,
-    pub(crate) nodes: Vec<Node>,
+    classes: Vec<Class>,
+    nodes: Vec<Node>,
     ghost rules: { WellFormed classes.items nodes.items },
 }

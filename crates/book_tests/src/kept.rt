@@ -36,7 +36,7 @@ fn attributes(rt: HostRuntime) -> Result<(), Fail> {
 #[test]
 fn nodes(rt: HostRuntime) -> Result<(), Fail> {
     let book = sample(&rt)?;
-    assert_eq!(rt; book.nodes(), sample_nodes().as_slice());
+    assert_eq!(rt; book.nodes(), sample_nodes().as_slice(), "the nodes");
     Ok(())
 }
 
