@@ -60,6 +60,24 @@ fn ask<F: Fn(&[Row], &[i32]) -> Result<(), JudgeCause>>(
     Ok(())
 }
 
+// The pair of the sum and the pair of the chain and the residue.
+fn show_pair(rt: &HostRuntime) -> anyhow::Result<()> {
+    let rows = opposed();
+    ask(
+        rt,
+        "pair",
+        |rows, voucher| example_referee(rows, voucher),
+        &[
+            (&rows, &[0, 1, 1]),
+            (&rows, &[0, 1, 0]),
+            (&rows, &[0, 0, 0]),
+            (&rows, &[1, 0]),
+            (&rows, &[2, 1, 1]),
+            (&[rows[0]; 65], &[0]),
+        ],
+    )
+}
+
 fn show_judges(rt: &HostRuntime) -> anyhow::Result<()> {
     println!(rt;
         "{:<7} | {:<41} | {:<7} | answer | cause",
@@ -91,19 +109,7 @@ fn show_judges(rt: &HostRuntime) -> anyhow::Result<()> {
         |rows, voucher| referee(&Residue, rows, voucher),
         &[(&odd, &[2, 1]), (&odd, &[1, 1]), (&doubled(-2), &[2, 1])],
     )?;
-    ask(
-        rt,
-        "pair",
-        |rows, voucher| example_referee(rows, voucher),
-        &[
-            (&rows, &[0, 1, 1]),
-            (&rows, &[0, 1, 0]),
-            (&rows, &[0, 0, 0]),
-            (&rows, &[1, 0]),
-            (&rows, &[2, 1, 1]),
-            (&[rows[0]; 65], &[0]),
-        ],
-    )
+    show_pair(rt)
 }
 
 fn main(rt: HostRuntime) -> anyhow::Result<()> {
