@@ -1,24 +1,14 @@
 -- What the judge Clash admits: two equations of one term, the same in both, with different constants.
-use Rattle.std.specs.Prelude.{Bool, true, false, not, ◌&&◌, List, [], length, ℤ, pos, ◌==◌, int_le, slice_index_or}
+use Rattle.std.specs.Prelude.{Bool, not, ◌&&◌, List, length, ℤ, ◌==◌, slice_index_or}
 use Rattle.rows.specs.Making.{no_term}
 use Rattle.rows.specs.Meaning.{terms_of}
-use Rattle.rows.specs.declared.row.Relation.{Relation}
-use Rattle.rows.specs.declared.row.Relation.TheVariants.{AtLeast, Equal}
 use Rattle.rows.specs.declared.row.Term.{Term}
 use Rattle.rows.specs.declared.row.Row.{Row}
-
-abbrev pub no_row : Row
-no_row = record { relation = AtLeast; terms = []; count = 0; constant = pos 0 }
-
-abbrev pub same_number : ℤ → ℤ → Bool
-same_number x y = int_le x y && int_le y x
-
-abbrev pub is_equal : Relation → Bool
-is_equal AtLeast = false
-is_equal Equal = true
+use Rattle.judges.specs.Unknowns.{same_unknown, same_number, no_row}
+use Rattle.judges.specs.Residue.{is_equal}
 
 abbrev pub same_term : Term → Term → Bool
-same_term s t = same_number s.coefficient t.coefficient && (s.unknown.object == t.unknown.object && s.unknown.attribute == t.unknown.attribute)
+same_term s t = same_number s.coefficient t.coefficient && same_unknown s.unknown t.unknown
 
 abbrev pub opposed : Row → Row → Bool
 opposed a b =

@@ -1,6 +1,6 @@
 -- Two equations that clash have no solution.
 use Rattle.std.specs.Prelude.{◌≡◌, Bool, true, false, T, List, [], ◌∷◌, length, get_or, ℤ, pos, ◌+ℤ◌, ◌*ℤ◌, ◌==◌, slice_index_or, refl}
-use Rattle.std.proofs.Common.{ap, subst, arith}
+use Rattle.std.proofs.Common.{ap, arith}
 use Rattle.std.proofs.lemmas.Int.{ints}
 use Rattle.std.proofs.lemmas.Bool.{and_parts, eqb-true, not-true, both_ways}
 use Rattle.rows.specs.Making.{no_term}
@@ -9,13 +9,11 @@ use Rattle.rows.specs.declared.row.Relation.{Relation}
 use Rattle.rows.specs.declared.row.Relation.TheVariants.{AtLeast, Equal}
 use Rattle.rows.specs.declared.row.Term.{Term}
 use Rattle.rows.specs.declared.row.Row.{Row}
-use Rattle.judge_tests.specs.Clash.{same_number, is_equal, same_term, opposed, clash_admits}
-
-same_from : (x y : ℤ) → same_number x y ≡ true → x ≡ y
-same_from x y h = grind (arith, ints)
-
-same_to : (x : ℤ) → same_number x x ≡ true
-same_to x = grind (arith, ints)
+use Rattle.judges.specs.Unknowns.{same_number}
+use Rattle.judges.specs.Residue.{is_equal}
+use Rattle.judges.specs.Numbers.{number_decides}
+use Rattle.judges.specs.Combined.{same_is}
+use Rattle.judge_tests.specs.Clash.{same_term, opposed, clash_admits}
 
 -- what an equation of one term says
 one_term : (v : Valuation) (r : Row) → is_equal r.relation ≡ true → (ts : List Term) → terms_of r ≡ ts → (length ts == 1) ≡ true → Holds v r →
@@ -34,11 +32,9 @@ one_term v r is (t ∷ (s ∷ ts)) e one h = let n = eqb-true (length (t ∷ (s 
 same_product : (v : Valuation) (s t : Term) → same_term s t ≡ true → s.coefficient *ℤ v s.unknown ≡ t.coefficient *ℤ v t.unknown
 same_product v s t h =
     let a = and_parts (same_number s.coefficient t.coefficient) _ h in
-    let b = and_parts (s.unknown.object == t.unknown.object) (s.unknown.attribute == t.unknown.attribute) a.1 in
-    let p = same_from s.coefficient t.coefficient a.0 in
-    let q = eqb-true s.unknown.object t.unknown.object b.0 in
-    let r = eqb-true s.unknown.attribute t.unknown.attribute b.1 in
-    λ i. p i *ℤ v (record { object = q i; attribute = r i })
+    let p = (number_decides s.coefficient t.coefficient).0 a.0 in
+    let q = same_is s.unknown t.unknown a.1 in
+    λ i. p i *ℤ v (q i)
 
 opposed_fail : (a b : Row) → opposed a b ≡ true → (v : Valuation) → Holds v a → Holds v b → ⊥
 opposed_fail a b h v x y =
@@ -51,7 +47,7 @@ opposed_fail a b h v x y =
     let g = one_term v b q.0 (terms_of b) refl s.0 y in
     let e = same_product v (slice_index_or (terms_of a) 0 no_term) (slice_index_or (terms_of b) 0 no_term) t.0 in
     let k : a.constant ≡ b.constant = omega (arith, ints) in
-    both_ways (same_number a.constant b.constant) (not-true _ t.1) (subst (λ z. same_number a.constant z ≡ true) k (same_to a.constant))
+    both_ways (same_number a.constant b.constant) (not-true _ t.1) ((number_decides a.constant b.constant).1 k)
 
 true_from : (b : Bool) → T b → b ≡ true
 true_from true h = refl

@@ -5,6 +5,7 @@ use Rattle.std.proofs.Math.IntN.{*ℤ-zero, zero-*ℤ, *ℤ_comm, suc_ℤ-*ℤ}
 use Rattle.std.proofs.lemmas.Int.{ints}
 use Rattle.std.proofs.lemmas.Bool.{eqb-true, eq-eqb, and_parts, and_from, cases_Bool, cond_both}
 use Rattle.std.proofs.lemmas.Bool.Decides.{nat_tests, same_from_decides}
+use Rattle.std.specs.List.{list_all}
 use Rattle.rows.specs.Meaning.{Valuation, sum_of, terms_of}
 use Rattle.rows.specs.declared.row.Unknown.{Unknown}
 use Rattle.rows.specs.declared.row.Term.{Term}
@@ -122,13 +123,12 @@ coefficient_or p u (r ∷ rs) (n ∷ ns) h =
     (coefficient_or p u rs ns both.1))
     (share_or p u (terms_of r) both.0)
 
-every_term : (p : Unknown → Bool) → ((u : Unknown) → p u ≡ true) → (ts : List Term) → each_term p ts ≡ true
-every_term p h [] = refl
-every_term p h (t ∷ ts) = and_from (p t.unknown) (each_term p ts) (h t.unknown) (every_term p h ts)
+every : {X : Type 0} (p : X → Bool) → ((x : X) → p x ≡ true) → (xs : List X) → list_all p xs ≡ true
+every p h [] = refl
+every p h (x ∷ xs) = and_from (p x) (list_all p xs) (h x) (every p h xs)
 
 every_unknown : (p : Unknown → Bool) → ((u : Unknown) → p u ≡ true) → (rows : List Row) → each_unknown p rows ≡ true
-every_unknown p h [] = refl
-every_unknown p h (r ∷ rs) = and_from (each_term p (terms_of r)) (each_unknown p rs) (every_term p h (terms_of r)) (every_unknown p h rs)
+every_unknown p h rows = every (λ (row : Row). each_term p (terms_of row)) (λ row. every (λ (t : Term). p t.unknown) (λ t. h t.unknown) (terms_of row)) rows
 
 -- the unknowns of a table differ
 abbrev Fresh : Unknown → List Total → Type 0

@@ -12,6 +12,7 @@ use Rattle.world.specs.Test.{then_rest, tested_from, tested}
 use Rattle.world.specs.Inner.{values_at, Told, GivenWithin}
 use Rattle.world.specs.Trials.{evaluated_in, tested_in}
 use Rattle.world.specs.declared.elements.Trial.{Trial}
+use Rattle.world.proofs.Walks.{told_ok}
 use Rattle.world.specs.declared.parts.Answer.{Answer}
 use Rattle.world.specs.declared.parts.Evaluation.{Evaluation}
 use Rattle.world.specs.declared.parts.Verdict.TheVariants.{No}
@@ -37,9 +38,6 @@ gone_none t budget = record { within = zero-le; so_far = simp zero-add }
 
 rest_least : (n : ℕ) (o : Evaluation) (rest : Answer) → o.visits ≤ (then_rest n o rest).visits
 rest_least n o rest = grind arith
-
-given_ok : {budget : ℕ} {whole o : Answer} → whole ≡ o → o.visits ≤ budget → GivenWithin budget whole (Ok o)
-given_ok e h = (sym e, rw e h)
 
 pub few_nodes : (t : Trial) {ns : List Node} → ns ≡ nodes_of t.book.now → length ns ≤ most_nodes
 unfolding heads_ok
@@ -80,7 +78,7 @@ module _ {t : Trial} {i budget visits : ℕ} (at : Gone t i budget visits) {ns :
         fits = let e : b.visits ≤ budget - visits = rw told.0 told.1 in omega (arith, at.within)
 
         pub gone_stops : not b.truth ≡ true → GivenWithin budget (tested_in t) (Ok (record { verdict = No (i + 1); visits = visits + b.visits }))
-        gone_stops h = given_ok (after ∙ simp (not-true b.truth h)) fits
+        gone_stops h = told_ok (λ (x : Answer). x.visits) (after ∙ simp (not-true b.truth h)) fits
 
         pub gone_goes : not b.truth ≡ false → Gone t (i + 1) budget (visits + b.visits)
         gone_goes h = record { within = fits; so_far = after ∙ simp (not-false b.truth h, add_assoc) }

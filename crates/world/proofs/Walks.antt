@@ -7,7 +7,7 @@ use Rattle.book.specs.Whole.{nodes_of}
 use Rattle.book.specs.declared.parts.Node.{Node}
 use Rattle.world.specs.Worlds.{World, Element, world_of, no_element}
 use Rattle.world.specs.Truth.{Env, chained, visited, tried, evaluated}
-use Rattle.world.specs.Inner.{Told}
+use Rattle.world.specs.Inner.{Within, Told}
 use Rattle.world.specs.Trials.{env_in, evaluated_in, tried_in}
 use Rattle.world.specs.declared.elements.Trial.{Trial}
 use Rattle.world.specs.declared.parts.Evaluation.{Evaluation}
@@ -32,8 +32,9 @@ chain_goes want o rest h = grind arith
 chain_least : (want : Bool) (o rest : Evaluation) → 1 + o.visits ≤ (chained want (visited o) rest).visits
 chain_least want o rest = grind arith
 
-told_ok : {budget : ℕ} {whole o : Evaluation} → whole ≡ o → o.visits ≤ budget → Told budget whole (Ok o)
-told_ok e h = (sym e, rw e h)
+-- what is found is told, where the budget suffices
+pub told_ok : {X : Type 0} (visits : X → ℕ) {budget : ℕ} {whole o : X} → whole ≡ o → visits o ≤ budget → Within visits budget whole (Ok o)
+told_ok visits e h = (sym e, rw e h)
 
 -- what a quantifier says of the elements from place i on
 abbrev pub rest_from : Trial → Quantifier → List ℕ → ℕ → Evaluation
@@ -85,7 +86,7 @@ module _ {t : Trial} {q : Quantifier} {slots : List ℕ} {i budget visits : ℕ}
         fits = let e : b.visits ≤ budget - (visits + 1) = rw told.0 told.1 in omega (arith, at.within)
 
         pub walk_stops : beq b.truth q.want ≡ true → Told budget (tried_in t q slots) (Ok (record { truth = q.want; visits = visits + 1 + b.visits }))
-        walk_stops h = told_ok (after ∙ ap (later visits) (chain_stops q.want b tail h) ∙ simp add_assoc) fits
+        walk_stops h = told_ok (λ (x : Evaluation). x.visits) (after ∙ ap (later visits) (chain_stops q.want b tail h) ∙ simp add_assoc) fits
 
         pub walk_goes : beq b.truth q.want ≡ false → Walked t q slots (i + 1) budget (visits + 1 + b.visits)
         walk_goes h = record { within = fits; so_far = after ∙ ap (later visits) (chain_goes q.want b tail h) ∙ simp add_assoc }
