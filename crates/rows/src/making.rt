@@ -4,6 +4,7 @@ ghost use Rattle.rows.specs.Meaning.{terms_of, most_terms};
 ghost use Rattle.rows.specs.Making.{made_row};
 
 use crate::row::{Relation, Row, Term};
+use std::array;
 
 const MOST_TERMS: usize = 8;
 
@@ -16,11 +17,9 @@ impl Row {
         if terms.len() > MOST_TERMS {
             return None;
         }
-        let mut places = [Term::default(); MOST_TERMS];
-        places[..terms.len()].copy_from_slice(terms);
         Some(Row {
             relation,
-            terms: places,
+            terms: array::from_fn(|i| terms.get(i).copied().unwrap_or_default()),
             count: terms.len(),
             constant,
         })

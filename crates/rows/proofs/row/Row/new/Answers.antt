@@ -1,12 +1,11 @@
-use Rattle.std.proofs.Common.{◌≡◌, ◌∷◌, [], ◌++◌, length, drop, ap, ◌∙◌, rules}
-use Rattle.rows.specs.declared.row.Term.{Term}
-use Rattle.rows.specs.Making.{no_term}
-use Rattle.rows.proofs.Places.{places_filled}
+use Rattle.std.proofs.Common.{◌≡◌, length, take, slice_index_or, ap, ◌∙◌, rules}
+use Rattle.rows.specs.Making.{no_term, places_of}
+use Rattle.rows.proofs.Filled.{filled}
+use Rattle.rows.proofs.Places.{places_kept}
 use Rattle.rows.proofs.row.Row.new.Goals as goal
 
-pub returns-clause-row : goal.returns-clause-row
-returns-clause-row c =
+pub returns : goal.returns
+returns c =
     let ts = c.args.terms.now in
-    let none : c.default-places.result ≡ no_term = search rules in
-    let filled = ap (λ (t : Term). ts ++ drop (length ts) (t ∷ (t ∷ (t ∷ (t ∷ (t ∷ (t ∷ (t ∷ (t ∷ []))))))))) none ∙ places_filled ts c.if-terms-gt-MOST_TERMS.false in
-    search (rules, filled)
+    let places : c.from_fn.result ≡ places_of ts = filled _ _ (λ i. slice_index_or ts i no_term) (λ i y q h. search rules) c.from_fn.result 8 no_term c.from_fn.ensures.items in
+    record { row = search (rules, places); kept = ap (take (length ts)) places ∙ places_kept ts c.if-terms-gt-MOST_TERMS.false }
