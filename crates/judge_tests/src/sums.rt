@@ -85,6 +85,12 @@ fn several_terms(rt: HostRuntime) -> Result<(), Fail> {
             ),
             ("terms of 0", &[nothing], &[1], Ok(())),
             ("an equation", &[five, four], &[1, 1], Ok(())),
+            (
+                "no term in the first row",
+                &[bare(-1), four],
+                &[0, 1],
+                Err(UnknownsLeft),
+            ),
         ],
     )
 }

@@ -1,19 +1,17 @@
 -- A ring of rows: each one beside the next, and the last one beside the first.
-use Rattle.std.proofs.Common.{◌≡◌, Bool, ◌&&◌, List, [], ◌∷◌, ◌++◌, take, drop, refl, ap}
+use Rattle.std.proofs.Common.{◌≡◌, suc, ◌-◌, ◌<◌, Bool, ◌&&◌, List, [], ◌∷◌, length, get_or, take, drop, sym, ap, ◌∙◌, arith}
 use Rattle.std.specs.List.{list_all, zip}
+use Rattle.std.proofs.Math.Bool.{and-true, and_assoc}
+use Rattle.std.proofs.lemmas.List.{take_all}
 use Rattle.rows.specs.declared.row.Row.{Row}
-use Rattle.judges.specs.Unknowns.{same_unknown}
-use Rattle.judges.specs.Chain.{plus_of, minus_of, leads, home_of}
+use Rattle.judges.specs.Chain.{plus_of, linked, leads, home_of}
 
--- a row and the one that follows it
-abbrev pub linked : Row × Row → Bool
-linked p = same_unknown (minus_of p.0) (plus_of p.1)
+leads_on : (first row : Row) (more : List Row) (any : Row) → leads (plus_of first) (row ∷ more) ≡ (list_all linked (zip (row ∷ more) more) && linked (get_or (row ∷ more) (length more) any, first))
+leads_on first row [] any = and-true (linked (row, first))
+leads_on first row (next ∷ more) any =
+    ap (λ b. linked (row, next) && b) (leads_on first next more any)
+    ∙ sym (and_assoc (linked (row, next)) (list_all linked (zip (next ∷ more) more)) (linked (get_or (next ∷ more) (length more) any, first)))
 
-leads_on : (first : Row) (rows : List Row) → leads (plus_of first) rows ≡ list_all linked (zip rows (drop 1 rows ++ first ∷ []))
-leads_on first [] = refl
-leads_on first (r ∷ []) = refl
-leads_on first (r ∷ (s ∷ rs)) = ap (λ b. linked (r, s) && b) (leads_on first (s ∷ rs))
-
-pub leads_round : (rows : List Row) → leads (home_of rows) rows ≡ list_all linked (zip rows (drop 1 rows ++ take 1 rows))
-leads_round [] = refl
-leads_round (r ∷ rs) = leads_on r (r ∷ rs)
+pub leads_round : (rows : List Row) (any : Row) → 0 < length rows → leads (home_of rows) rows ≡ (list_all linked (zip rows (take (length rows - 1) (drop 1 rows))) && linked (get_or rows (length rows - 1) any, get_or rows 0 any))
+leads_round [] any h = absurd (omega arith)
+leads_round (row ∷ more) any h = let last : suc (length more) - 1 ≡ length more = omega arith in rw (last, take_all (length more) more (omega arith)) (leads_on row row more any)

@@ -28,6 +28,10 @@ plus_of row = unknown_with_lem (pos 1) (terms_of row)
 abbrev pub minus_of : Row → Unknown
 minus_of row = unknown_with_lem (negsuc 0) (terms_of row)
 
+-- a row leads to the one beside it: its unknown with -1 is that one's with 1
+abbrev pub linked : Row × Row → Bool
+linked p = same_unknown (minus_of p.0) (plus_of p.1)
+
 -- a row says that one unknown, less another, plus the constant, is 0 or more; its two terms stand in either order
 abbrev pub IsDifference : Row → Type 0
 IsDifference row =

@@ -1,8 +1,9 @@
 // Differences in a ring: the constants of a way that ends where it began.
 ghost use Rattle.std.specs.Prelude.{◌≡◌, ◌≤◌, length, is_ok, Err};
+ghost use Rattle.std.specs.List.{list_all, zip};
 ghost use Rattle.rows.specs.Meaning.{terms_of};
 ghost use Rattle.judges.specs.Judging.{Caused, Judged};
-ghost use Rattle.judges.specs.Chain.{chain_rows, unknown_with_lem, is_difference, all_differences, home_of, leads, constants_of, chain_asks, chain_answer};
+ghost use Rattle.judges.specs.Chain.{chain_rows, unknown_with_lem, linked, is_difference, all_differences, home_of, leads, constants_of, chain_asks, chain_answer};
 ghost use Rattle.judges.specs.ChainLaw.{chain_sound, chain_bounded};
 
 use crate::meaning::Judge;
@@ -53,14 +54,16 @@ fn go_round(rows: &[Row], voucher: &[i32]) -> Result<(), JudgeCause>
 }
 
 // The unknown of the first term with this coefficient; the default where there is none.
+// A loop, since `find` in its place makes a ring of 64 rows half as slow again.
 fn unknown_with(row: &Row, coefficient: i32) -> Unknown
     ensures { result ≡ unknown_with_lem coefficient (terms_of row.now) }
 {
-    row.terms()
-        .iter()
-        .find(|term| term.coefficient == coefficient)
-        .map(|term| term.unknown)
-        .unwrap_or_default()
+    for term in row.terms() {
+        if term.coefficient == coefficient {
+            return term.unknown;
+        }
+    }
+    Unknown::default()
 }
 
 fn is_link(row: &Row) -> bool
@@ -81,13 +84,28 @@ fn are_links(rows: &[Row]) -> bool
     rows.iter().all(is_link)
 }
 
+// Whether the unknown with -1 of a row is the next one's with 1.
+fn leads_to(row: &Row, next: &Row) -> bool
+    ensures { result ≡ linked (row.now, next.now) }
+{
+    unknown_with(row, -1) == unknown_with(next, 1)
+}
+
+// Whether each row leads to the one beside it, as far as both lists go.
+fn are_linked(rows: &[Row], next: &[Row]) -> bool
+    ensures { result ≡ list_all linked (zip rows.now next.now) }
+{
+    rows.iter().zip(next).all(|(row, next)| leads_to(row, next))
+}
+
 // Each row leads to the next one, and the last one to the first.
 fn is_ring(rows: &[Row]) -> bool
     ensures { result ≡ leads (home_of rows.now) rows.now }
 {
-    rows.iter()
-        .zip(rows.iter().skip(1).chain(rows.iter().take(1)))
-        .all(|(row, next)| unknown_with(row, -1) == unknown_with(next, 1))
+    let ([first, more @ ..], [.., last]) = (rows, rows) else {
+        return true;
+    };
+    are_linked(rows, more) && leads_to(last, first)
 }
 
 fn sum_constants(rows: &[Row]) -> i128

@@ -1,5 +1,5 @@
 // The sum of rows, each times its number: a total for each unknown, and a constant.
-ghost use Rattle.std.specs.Prelude.{◌≡◌, ◌+◌, ◌^◌, ◌<◌, ◌≤◌, [], length, ◌*ℤ◌, position, unsigned_abs};
+ghost use Rattle.std.specs.Prelude.{◌≡◌, ◌+◌, ◌*◌, ◌^◌, ◌<◌, ◌≤◌, [], length, ◌*ℤ◌, position, unsigned_abs};
 ghost use Rattle.arrayvec.specs.ArrayVec.{array_vec_len};
 ghost use Rattle.rows.specs.Meaning.{terms_of};
 ghost use Rattle.judges.specs.Combination.{largest_number, constant_of};
@@ -15,7 +15,7 @@ use rows::{Row, Unknown};
 #[derive(Clone, Copy, Default)]
 pub(crate) struct Total {
     unknown: Unknown,
-    total: i128,
+    total: i64,
 }
 
 // A total for each unknown so far. There is room for all terms of 32 rows.
@@ -24,7 +24,7 @@ type Totals = ArrayVec<Total, 256>;
 fn weigh(number: i32, value: i64) -> i128
     requires { unsigned_abs number ≤ largest_number }
     ensures value { result ≡ number *ℤ value }
-    ensures size { unsigned_abs result ≤ 2 ^ 83 }
+    ensures size { unsigned_abs result ≤ largest_number * unsigned_abs value }
 {
     i128::from(number) * i128::from(value)
 }
@@ -35,13 +35,13 @@ fn place(totals: &[Total], unknown: Unknown) -> Option<usize>
     totals.iter().position(|entry| entry.unknown == unknown)
 }
 
-fn add(totals: &mut Totals, unknown: Unknown, by: i128)
+fn add(totals: &mut Totals, unknown: Unknown, by: i64)
     requires room { array_vec_len totals.old < 256 }
-    requires sizes { peak totals.old.items ≤ 2 ^ 100 }
-    requires size { unsigned_abs by ≤ 2 ^ 83 }
+    requires sizes { peak totals.old.items ≤ 2 ^ 62 }
+    requires size { unsigned_abs by ≤ 2 ^ 51 }
     ensures table { totals.new.items ≡ put totals.old.items unknown by }
     ensures count { array_vec_len totals.new ≤ array_vec_len totals.old + 1 }
-    ensures sizes { peak totals.new.items ≤ peak totals.old.items + 2 ^ 83 }
+    ensures sizes { peak totals.new.items ≤ peak totals.old.items + 2 ^ 51 }
 {
     match place(totals, unknown) {
         Some(i) => totals[i].total += by,
@@ -51,15 +51,16 @@ fn add(totals: &mut Totals, unknown: Unknown, by: i128)
 
 fn add_terms(totals: &mut Totals, row: &Row, number: i32)
     requires room { array_vec_len totals.old ≤ 248 }
-    requires sizes { peak totals.old.items ≤ 2 ^ 99 }
+    requires sizes { peak totals.old.items ≤ 2 ^ 61 }
     requires number { unsigned_abs number ≤ largest_number }
     ensures table { totals.new.items ≡ put_terms totals.old.items number (terms_of row.now) }
     ensures count { array_vec_len totals.new ≤ array_vec_len totals.old + 8 }
-    ensures sizes { peak totals.new.items ≤ peak totals.old.items + 2 ^ 86 }
+    ensures sizes { peak totals.new.items ≤ peak totals.old.items + 2 ^ 54 }
 {
     for term in row.terms() {
+        // 20 bits times 31, so 64 are enough.
         let by = weigh(number, i64::from(term.coefficient));
-        add(totals, term.unknown, by);
+        add(totals, term.unknown, by as i64);
     }
 }
 
@@ -78,14 +79,17 @@ impl Combination {
         requires small { Small numbers.now }
         ensures totals { result.totals.items ≡ gathered [] rows.now numbers.now }
         ensures constant { result.constant ≡ constant_of rows.now numbers.now }
+        ensures sizes { peak result.totals.items ≤ 2 ^ 59 }
     {
-        let mut totals = ArrayVec::new();
-        let mut constant = 0;
+        let mut sum = Combination {
+            totals: ArrayVec::new(),
+            constant: 0,
+        };
         for (row, number) in rows.iter().zip(numbers) {
-            add_terms(&mut totals, row, *number);
-            constant += weigh(*number, row.constant);
+            add_terms(&mut sum.totals, row, *number);
+            sum.constant += weigh(*number, row.constant);
         }
-        Combination { totals, constant }
+        sum
     }
 
     // Whether the modulus divides each coefficient of the sum; 0 divides 0 alone.
@@ -94,6 +98,6 @@ impl Combination {
     {
         self.totals
             .iter()
-            .all(|entry| divides(modulus, entry.total))
+            .all(|entry| divides(modulus, i128::from(entry.total)))
     }
 }

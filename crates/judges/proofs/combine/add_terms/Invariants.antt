@@ -7,4 +7,4 @@ abbrev pub invariant-loop-term : goal.invariant-loop-term
 invariant-loop-term l =
     (l.totals.items ≡ put_terms l.initial.totals.items l.number (take l.term-index l.term-items))
     × (array_vec_len l.totals ≤ array_vec_len l.initial.totals + l.term-index)
-    × (peak l.totals.items ≤ peak l.initial.totals.items + l.term-index * 2 ^ 83)
+    × (peak l.totals.items ≤ peak l.initial.totals.items + l.term-index * 2 ^ 51)

@@ -9,10 +9,10 @@ use Rattle.judges.specs.Gather.{put_terms, gathered}
 use Rattle.judges.proofs.Tables.{gathered_more, constant_more}
 use Rattle.judges.proofs.combine.Combination.of.Goals as goal
 
-pub overflow_add-constant : goal.overflow_add-constant
-overflow_add-constant c =
+pub overflow_add-sum : goal.overflow_add-sum
+overflow_add-sum c =
     let t = zip_turn c.args.rows.now c.args.numbers.now c.loop-row.yielded c.into_iter-row-iterator.result c.loop-row.row-iterator c.next.new.self c.next.result (search rules) (search rules) c.loop-row.yielded_by (c.in-Some.row, c.in-Some.number) c.in-Some.is c.next.ensures.steps in
-    omega (arith, ints, t.0, c.requires.few, c.loop-row.invariant.4, c.weigh-constant.ensures.size)
+    omega (arith, ints, t.0, c.requires.few, c.loop-row.invariant.4, c.weigh.ensures.size)
 
 pub loop-row-preserved : goal.loop-row-preserved
 loop-row-preserved c =
@@ -27,12 +27,12 @@ loop-row-preserved c =
     let kept = c.loop-row.invariant in
     let fit : FitsSigned w32 n = search rules in
     let fits : FitsSigned w64 r.constant = search rules in
-    let table : c.add_terms.new.totals.items ≡ put_terms c.loop-row.totals.items n (terms_of r) = search rules in
-    let product : c.weigh-constant.result ≡ n *ℤ r.constant = search rules in
-    let size = c.weigh-constant.ensures.size in
+    let table : c.add_terms.new.totals.items ≡ put_terms c.loop-row.sum.totals.items n (terms_of r) = search rules in
+    let product : c.weigh.result ≡ n *ℤ r.constant = search rules in
+    let size = c.weigh.ensures.size in
     let more = constant_more rows ns k t.0 t.1 r n (t.2 no_row) (t.3 (pos 0)) in
     rw (length_push xs (c.in-Some.row, c.in-Some.number)) (
-      kept.0 ∙ gathered_more rows ns k t.0 t.1 r n (t.2 no_row) (t.3 (pos 0)) c.loop-row.totals.items ∙ sym (ap (λ es. gathered es (drop (k + 1) rows) (drop (k + 1) ns)) table),
+      kept.0 ∙ gathered_more rows ns k t.0 t.1 r n (t.2 no_row) (t.3 (pos 0)) c.loop-row.sum.totals.items ∙ sym (ap (λ es. gathered es (drop (k + 1) rows) (drop (k + 1) ns)) table),
       omega (arith, ints, kept.1, more, product),
       omega (arith, kept.2, c.add_terms.ensures.count),
       omega (arith, kept.3, c.add_terms.ensures.sizes),
