@@ -12,6 +12,7 @@ leads_on first row (next ∷ more) any =
     ap (λ b. linked (row, next) && b) (leads_on first next more any)
     ∙ sym (and_assoc (linked (row, next)) (list_all linked (zip (next ∷ more) more)) (linked (get_or (next ∷ more) (length more) any, first)))
 
-pub leads_round : (rows : List Row) (any : Row) → 0 < length rows → leads (home_of rows) rows ≡ (list_all linked (zip rows (take (length rows - 1) (drop 1 rows))) && linked (get_or rows (length rows - 1) any, get_or rows 0 any))
-leads_round [] any h = absurd (omega arith)
-leads_round (row ∷ more) any h = let last : suc (length more) - 1 ≡ length more = omega arith in rw (last, take_all (length more) more (omega arith)) (leads_on row row more any)
+-- b says whether each row leads to the next
+pub leads_round : (rows : List Row) (any : Row) (b : Bool) → 0 < length rows → b ≡ list_all linked (zip rows (take (length rows - 1) (drop 1 rows))) → (b && linked (get_or rows (length rows - 1) any, get_or rows 0 any)) ≡ leads (home_of rows) rows
+leads_round [] any b h is = absurd (omega arith)
+leads_round (row ∷ more) any b h is = let last : suc (length more) - 1 ≡ length more = omega arith in rw (is, last, take_all (length more) more (omega arith)) (sym (leads_on row row more any))

@@ -77,6 +77,7 @@ fn put_more<W: fmt::Write>(f: &mut fmt::Formatter<W>, constant: i64) -> fmt::Res
 {
     let sign = sign(false, constant < 0);
     match constant.unsigned_abs() {
+        // The writer is called for each part of a row, an empty one too.
         0 => f.write_str(""),
         size => write!(f, "{sign}{size}"),
     }
